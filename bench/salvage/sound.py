@@ -166,6 +166,8 @@ def sound_of(log):
     wrong = wrong_in_header(log)
     damages = [] if wrong is None else [(wrong, "header")]
     if len(log) <= 17:
+        if wrong is None and log[16:] != b"C":
+            damages = [(16, "frame")]
         return [], damages, 16
     named = 1 if log[14:15] == b"1" else 2
     version = next((it for it in (2, 1) if frame_at(log, 16, it, [])[1] is not None), named)

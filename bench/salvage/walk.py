@@ -1,7 +1,8 @@
 #!/usr/bin/env python3
 """walk.py PROGRAM FILE ..: `salvage` over a small journal of these MARC files, whole, cut at each byte, and with each byte changed in three ways (and into a
 closed gate and an open one). What it tells, how it ends and what its new journal has are compared with sound.py; the damaged journal has to stay as it
-was, and a second `salvage` into the same journal has to tell the same. Ends with 1 where one differs. Measures nothing."""
+was, and a second `salvage` into the same journal has to tell the same. The digest of the whole journal has to find each change in front of its last
+gate. Ends with 1 where one differs. Measures nothing."""
 import os
 import subprocess
 import sys
@@ -28,6 +29,8 @@ for file in files:
     run("load", "journal", f"ULIB={file}")
 journal = open("journal", "rb").read()
 counts, wrong = {}, []
+kept = next(line for line in run("verify", "journal")[1].splitlines() if line.startswith("sha256 ")).split()
+digest, count = kept[1], kept[3]
 
 
 def judge(what, image):
@@ -41,6 +44,11 @@ def judge(what, image):
             wrong.append(f"{what}: wanted {status} {told!r}, got {answer}")
     if open("damaged", "rb").read() != image:
         wrong.append(f"{what}: the damaged journal was written")
+    verified, _ = run("verify", "damaged", count, digest)
+    if image == journal and verified != 0:
+        wrong.append(f"{what}: its own digest ends with {verified}")
+    if image[: len(journal) - 1] != journal[:-1] and verified not in (6, 10):
+        wrong.append(f"{what}: the digest of the whole journal ends with {verified}")
     if status == 0:
         found, damages, _ = sound_of(open("new", "rb").read())
         if (found, damages) != (entries, []):

@@ -1,8 +1,8 @@
 """What one changed authority costs, and what many authorities under one form cost: `pass` over made files.
 
-    changes.py PROGRAM [FOLDER]
+    changes.py PROGRAM [FOLDER [TABLE ..]]
 
-Three tables, each figure the median of five runs of the processor time of `pass`:
+Three tables, heading_changes, one_form and ambiguous, each figure the median of five runs of the processor time of `pass`:
 
 - a heading change with 1,000, 10,000 and 100,000 linked records of 20 fields: the time of a file in which the authority
   comes ten times more, each time with another heading, less that of the file without these, for each change and record;
@@ -54,7 +54,7 @@ def book(number, heading, notes):
 def processor_seconds(words):
     """User and system time of one run, whose answer may be 0 alone."""
     before = os.times()
-    subprocess.run(words, check=True, stdout=subprocess.DEVNULL)
+    subprocess.run(words, check=True, stdout=subprocess.DEVNULL, stderr=subprocess.DEVNULL)
     after = os.times()
     return after.children_user - before.children_user + after.children_system - before.children_system
 
@@ -113,8 +113,9 @@ def main():
         folder = pathlib.Path(sys.argv[2] if len(sys.argv) > 2 else made)
         folder.mkdir(parents=True, exist_ok=True)
         for table in (heading_changes, one_form, ambiguous):
-            table(program, folder)
-            print()
+            if table.__name__ in sys.argv[3:] or len(sys.argv) < 4:
+                table(program, folder)
+                print()
 
 
 main()

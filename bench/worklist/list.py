@@ -3,14 +3,13 @@
 Looks whether Python (`utf-8-sig`) reads the list and writes it again byte for byte, whether no cell begins as a formula does, whether there are as many
 lines of each state as the report's last line counts, whether they stand by falling count, and whether a library's list has its lines of the whole. Where
 `soffice` is there, it too reads the list, all columns as text, and what it writes again has the same cells. Ends with 1 where something is otherwise."""
-import csv
-import io
 import os
 import re
-import shutil
 import subprocess
 import sys
 import tempfile
+
+from readers import by_office, is_written_again, rows
 
 program = os.path.realpath(sys.argv[1])
 folder = os.path.realpath(sys.argv[2]) if len(sys.argv) > 2 else tempfile.mkdtemp()
@@ -42,10 +41,6 @@ def record(number, title, heading):
     return f"{size:05}nam a22{start:05} a 4500{directory}\x1e{body}\x1d".encode()
 
 
-def rows(data):
-    return list(csv.reader(io.StringIO(data.decode("utf-8-sig"), newline="")))
-
-
 call([0], "make", "7", "2000", "made.mrc")
 with open("risky.mrc", "wb") as out:
     out.write(record("r1", "</td><script>alert(1)</script>", '=HYPERLINK("x")') + record("r2", "+1, \"two\"", "@sum") + record("r3", "", "'t Hooft"))
@@ -55,9 +50,7 @@ call([0], "worklist", "j", "list.csv", "page.html")
 call([0], "worklist", "j", "risk.csv", "page2.html", "RISK")
 data = open("list.csv", "rb").read()
 lines = rows(data)
-again = io.StringIO(newline="")
-csv.writer(again, quoting=csv.QUOTE_ALL, lineterminator="\r\n").writerows(lines)
-look(b"\xef\xbb\xbf" + again.getvalue().encode() == data, "what Python reads and writes again")
+look(is_written_again(data), "what Python reads and writes again")
 look(all(cell[:1] not in "=+-@\t\n\r" or cell == "" for line in lines for cell in line), "a cell that begins as a formula does")
 names, cells = lines[0], [dict(zip(lines[0], line)) for line in lines[1:]]
 totals = dict(word.split("=") for word in re.findall(r"\w+=\d+", open("report.txt").read().splitlines()[-1]))
@@ -68,12 +61,7 @@ look(counts == sorted(counts, reverse=True), "the order of the lines")
 risk = rows(open("risk.csv", "rb").read())
 look(risk[1:] == [line for line in lines[1:] if line[names.index("library")] == "RISK" and line[0] in ("ambiguous", "unlinked")], "a library's list")
 look(open("page.html", "rb").read() == open("page2.html", "rb").read(), "the page of a library's list")
-if shutil.which("soffice"):
-    text = "/".join(f"{column}/2" for column in range(1, len(names) + 1))
-    subprocess.run(["soffice", "--headless", f"--infilter=CSV:44,34,76,1,{text}", "--convert-to", "csv:Text - txt - csv (StarCalc):44,34,76,1,,0,false,true,false,false",
-                    "--outdir", "office", "list.csv"], stdout=subprocess.DEVNULL, stderr=subprocess.DEVNULL)
-    look(rows(open("office/list.csv", "rb").read()) == lines, "what LibreOffice reads and writes again")
-else:
-    print("no soffice here")
+by_it = by_office(os.path.join(folder, "list.csv"), folder)
+look(by_it is None or by_it == lines, "what LibreOffice reads and writes again")
 print(f"{len(cells)} lines, {len(data)} bytes" + (", otherwise" if wrong else ", as they should be"))
 sys.exit(wrong)

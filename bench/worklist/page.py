@@ -10,6 +10,8 @@ import subprocess
 import sys
 import tempfile
 
+from readers import by_chromium
+
 here = os.path.dirname(os.path.abspath(__file__))
 program = os.path.realpath(sys.argv[1])
 folder = os.path.realpath(sys.argv[2]) if len(sys.argv) > 2 else tempfile.mkdtemp()
@@ -97,9 +99,8 @@ look([int(word.split("=")[1]) for word in last.split()[1:]] == shown, "totals ar
 for table in (libraries, kinds):
     sums = [sum(int(row[column]) for row in table[2:]) for column in (1, 2, 3)]
     look(sums == shown[-3:], f"{table[0]}: {sums}")
-if shutil.which("chromium"):
-    browser = ["chromium", "--headless", "--no-sandbox", "--disable-gpu", "--hide-scrollbars", "--window-size=1200,3600"]
-    for way in (f"--screenshot={folder}/page.png", f"--print-to-pdf={folder}/page.pdf"):
-        subprocess.run([*browser, way, f"file://{folder}/page.html"], stdout=subprocess.DEVNULL, stderr=subprocess.DEVNULL, timeout=300)
+shown = by_chromium(f"{folder}/page.html", f"{folder}/page.png", f"--print-to-pdf={folder}/page.pdf")
+look(shown is not False, "what Chromium shows")
+if shown:
     print("look at", f"{folder}/page.png", f"{folder}/page.pdf")
 sys.exit(wrong)

@@ -9,9 +9,9 @@ use Rattle.marc_types.specs.declared.key.Class.{Class}
 use Rattle.marc_types.specs.declared.key.Key.{Key}
 use Rattle.marc_types.specs.declared.entry.Tie.{Tie}
 use Rattle.heading_fields.specs.Numbers.{key_text}
-use Rattle.catalogue_rules.specs.State.{KeptField, KeptRecord, Row}
+use Rattle.catalogue_rules.specs.State.{KeptField, KeptRecord, Row, State, rows_of, linkable_authorities}
 use Rattle.catalogue_rules.specs.Lines.{line, then_word, then_words}
-use Rattle.catalogue_rules.specs.Output.{class_letter, tag_text}
+use Rattle.catalogue_rules.specs.Output.{class_letter, tag_text, ambiguous_line, field_lines}
 use Rattle.catalogue_tables.specs.declared.standing.Standing.{Standing}
 use Rattle.catalogue_tables.specs.declared.standing.Standing.TheVariants.{Linked, Ambiguous, Unlinked, NoHeading}
 
@@ -45,6 +45,10 @@ lines_beside line_of place [] xs = []
 lines_beside line_of place (tag ∷ tags) [] = []
 lines_beside line_of place (tag ∷ tags) (x ∷ xs) = line_of place tag x ++ lines_beside line_of (place + 1) tags xs
 
+-- the lines of a record's fields, each by what stands beside it
+abbrev pub record_lines : {X : Type 0} → (ℕ → Tag → X → List ℕ) → KeptRecord → List X → List ℕ
+record_lines line_of r xs = lines_beside line_of 0 (tags_of r) xs
+
 -- the lines of a record's fields
 abbrev pub row_lines : (Class → Key → ℕ → KeptField → List ℕ) → Class → Row → List ℕ
 row_lines line_of class row = flat_map (λ numbered. line_of class row.0 numbered.0 numbered.1) (enumerate_from 0 row.1.fields)
@@ -52,3 +56,11 @@ row_lines line_of class row = flat_map (λ numbered. line_of class row.0 numbere
 -- the lines of the fields of a class's records
 abbrev pub rows_lines : (Class → Key → ℕ → KeptField → List ℕ) → Class → List Row → List ℕ
 rows_lines line_of class rows = flat_map (row_lines line_of class) rows
+
+-- the lines of a class's ambiguous fields
+abbrev pub ambiguous_lines : Class → State → List ℕ
+ambiguous_lines class s = rows_lines (ambiguous_line (linkable_authorities s)) class (rows_of class s)
+
+-- the lines of all ambiguous fields
+abbrev pub all_ambiguous_lines : State → List ℕ
+all_ambiguous_lines s = field_lines (ambiguous_line (linkable_authorities s)) s

@@ -3,9 +3,8 @@ ghost use Rattle.std.specs.Prelude.{◌≡◌, map, is_some, IfOk, OnOk};
 ghost use Rattle.std.specs.Io.KnownBytes.{Appends};
 ghost use Rattle.outside.specs.Fault.{HasWriteCause};
 ghost use Rattle.outside.specs.Sink.{WritesFront};
-ghost use Rattle.catalogue_rules.specs.State.{linkable_authorities, rows_of};
-ghost use Rattle.catalogue_rules.specs.Output.{ambiguous_line};
-ghost use Rattle.ambiguity_report.specs.Beside.{rows_lines};
+ghost use Rattle.catalogue_rules.specs.State.{rows_of};
+ghost use Rattle.ambiguity_report.specs.Beside.{ambiguous_lines};
 ghost use Rattle.ambiguity_report.specs.Totals.{AreTotals, HaveRoom};
 ghost use Rattle.numbered_store.specs.Kept.{shown_row};
 
@@ -54,10 +53,8 @@ pub(crate) fn write_ambiguous<K: Sink>(
     out: &mut K,
 ) -> Result<Totals, WriteFault>
     requires { map shown_row rows.now.entries ≡ rows_of class engine.now.state }
-    ensures bytes { OnOk result (Appends (K.written out.old) (K.written out.new)
-        (rows_lines (ambiguous_line (linkable_authorities engine.now.state)) class (rows_of class engine.now.state))) }
-    ensures front { WritesFront (K.written out.old) (K.written out.new)
-        (rows_lines (ambiguous_line (linkable_authorities engine.now.state)) class (rows_of class engine.now.state)) }
+    ensures bytes { OnOk result (Appends (K.written out.old) (K.written out.new) (ambiguous_lines class engine.now.state)) }
+    ensures front { WritesFront (K.written out.old) (K.written out.new) (ambiguous_lines class engine.now.state) }
     ensures tells { is_some (K.written out.new) ≡ is_some (K.written out.old) }
     ensures cause { HasWriteCause (K.faults out.old) (K.faults out.new) result }
     ensures totals { IfOk result (AreTotals class engine.now.state) }

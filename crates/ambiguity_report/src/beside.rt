@@ -8,7 +8,7 @@ ghost use Rattle.marc_types.specs.Fields.{tag_of};
 ghost use Rattle.marc_types.specs.declared.key.Class.{Class as AnyClass};
 ghost use Rattle.marc_types.specs.declared.key.Key.{Key as AnyKey};
 ghost use Rattle.catalogue_rules.specs.Store.{field_at};
-ghost use Rattle.ambiguity_report.specs.Beside.{lines_beside, tags_of};
+ghost use Rattle.ambiguity_report.specs.Beside.{lines_beside, record_lines, tags_of};
 ghost use Rattle.numbered_store.specs.Kept.{kept_record};
 
 use marc_types::{Class, Key, NoMemory, Tag};
@@ -86,9 +86,9 @@ pub(crate) fn write_record<K: Sink, B: Beside>(
     out: &mut K,
 ) -> Result<(), WriteFault>
     ensures bytes { OnOk result (Appends (K.written out.old) (K.written out.new)
-        (lines_beside (B.field_line class key.now) 0 (tags_of (kept_record kept.now)) besides.now)) }
+        (record_lines (B.field_line class key.now) (kept_record kept.now) besides.now)) }
     ensures front { WritesFront (K.written out.old) (K.written out.new)
-        (lines_beside (B.field_line class key.now) 0 (tags_of (kept_record kept.now)) besides.now) }
+        (record_lines (B.field_line class key.now) (kept_record kept.now) besides.now) }
     ensures tells { is_some (K.written out.new) ≡ is_some (K.written out.old) }
     ensures cause { HasWriteCause (K.faults out.old) (K.faults out.new) result }
 {

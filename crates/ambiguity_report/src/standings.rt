@@ -1,9 +1,7 @@
 //! How the fields of a record stand.
-ghost use Rattle.std.specs.Prelude.{◌≡◌, ◌++◌, map, option_map, option_to_list, IfOk, OnOk};
-ghost use Rattle.catalogue_rules.specs.State.{linkable_authorities};
-ghost use Rattle.catalogue_rules.specs.Store.{field_at};
-ghost use Rattle.catalogue_tables.specs.Stands.{field_standing};
+ghost use Rattle.std.specs.Prelude.{◌≡◌, ◌++◌, IfOk, OnOk};
 ghost use Rattle.numbered_store.specs.Kept.{kept_record};
+ghost use Rattle.ambiguity_report.specs.Standings.{standings_of, standing_at};
 
 use catalogue_core::{Engine, Standing};
 use marc_types::{Class, NoMemory};
@@ -17,8 +15,7 @@ pub(crate) fn standings(
     class: Class,
     kept: &StoredRecord,
 ) -> Result<Vec<Standing>, NoMemory>
-    ensures { IfOk result (λ found.
-        found.items ≡ map (field_standing (linkable_authorities engine.now.state) class) (kept_record kept.now).fields) }
+    ensures { IfOk result (λ found. found.items ≡ standings_of engine.now.state class (kept_record kept.now)) }
 {
     let places = kept.field_count();
     let mut found = Vec::with_capacity(alloc, places as usize)?;
@@ -38,8 +35,7 @@ fn push_standing(
     kept: &StoredRecord,
     place: u32,
 ) -> Result<(), NoMemory>
-    ensures { OnOk result (found.new.items ≡ found.old.items
-        ++ option_to_list (option_map (field_standing (linkable_authorities engine.now.state) class) (field_at place (kept_record kept.now)))) }
+    ensures { OnOk result (found.new.items ≡ found.old.items ++ standing_at engine.now.state class place (kept_record kept.now)) }
 {
     match engine.standing_at(alloc, class, kept, place)? {
         Some(standing) => {

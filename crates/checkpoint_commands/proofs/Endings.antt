@@ -114,7 +114,9 @@ module _ (journal point : List ℕ) (differ : journal ≢ point) (o : Outcome) (
   durable_journal tells = closed_durable o.old o.new journal disk (log (then ∙ first.tells ∙ tells)) (log_bytes o.old journal) (kept tells)
 
   puts_history : o.old.tells ≡ true → PutsHistory journal point o.old o.new
-  puts_history tells = Behind history (has tells) (puts_across (journal ∷ []) point (none_of_one differ) o.old opened mid o.new first last history (puts (first.tells ∙ tells)))
+  puts_history tells =
+      Behind history (has tells) (puts_across (journal ∷ []) point (none_of_one differ) o.old opened mid o.new first last history (puts (first.tells ∙ tells)))
+      (durable_journal tells)
 
   pub checkpoints_refused : (reason : OpenFault) → o.end ≡ Told (fault_of_opening reason) → IsTold (fault_of_opening reason) o
       → SameBut o.old o.new (journal ∷ point ∷ []) → IsPointRefused opened mid point reason

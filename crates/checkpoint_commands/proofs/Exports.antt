@@ -31,6 +31,7 @@ use Rattle.journal_files.proofs.Histories.{reading_once, fitting_history}
 use Rattle.journal_files.proofs.Journals.{closed_keeps, closed_durable, keeps_where}
 use Rattle.checkpoint.specs.declared.point.Point.{Point}
 use Rattle.restoring.specs.Resuming.{IsResumed, IsOfHistory}
+use Rattle.restoring.proofs.Taking.{unspared_state}
 use Rattle.restoring.specs.declared.resuming.Restored.{Restored}
 use Rattle.checkpoint_commands.specs.PointLogs.{IsPointLog}
 use Rattle.checkpoint_commands.specs.Refusals.{IsJournalRefused, IsPointRefused, IsRefusedBehind}
@@ -46,7 +47,8 @@ use Rattle.checkpoint_commands.proofs.Written.{first_of, second_of, unwritten_si
 pub made_of_restored : (last : Option Point) (history : List Entry) (r : Restored) → IsResumed last history r
     → (IsOfHistory last history → r.engine.state ≡ state_of history) → IsStateFrom history last r.taken r.engine.state
 made_of_restored last history r is whole =
-    record { begun = is.begun; begins = is.begins; is = ap (λ (e : Engined). e.state) is.engine_is; whole = whole }
+    let made = ap (λ (e : Engined). e.state) is.engine_is in
+    record { begun = is.begun; begins = is.begins; is = made; whole = whole; unspared = unspared_state history last r.taken is.begun r.engine.state is.begins made }
 
 pub ok_not_err : {T E : Type 0} (result : Result T E) (value : T) (error : E) → result ≡ Ok value → result ≡ Err error → ⊥
 ok_not_err {T} {E} result value error is also = let both : Ok value ≡ Err error = sym is ∙ also in cc

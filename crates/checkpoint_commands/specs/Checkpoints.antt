@@ -39,10 +39,10 @@ EndsCheckpoint (Told OldVersion) = Unit {0}
 EndsCheckpoint (Told OtherHistory) = ⊥
 
 -- What comes of POINT: it is untouched; or the journal has a history, within the limits, of which a checkpoint is put behind those of
--- POINT, as far as it comes.
+-- POINT, as far as it comes, and the journal is durable.
 pub data PutsHistory (journal point : List ℕ) (old new : RoomView) : Type 0 where
   Untouched : IsUntouched old new point → PutsHistory journal point old new
-  Behind : (history : List Entry) → HasHistory history (log_bytes old journal) → PutsBehind history old new point → PutsHistory journal point old new
+  Behind : (history : List Entry) → HasHistory history (log_bytes old journal) → PutsBehind history old new point → IsDurable new journal → PutsHistory journal point old new
 
 -- A checkpoint of the journal's history is behind those of POINT, in its file and in each image, and the console is told how many entries
 -- the history has, or a front of that, where it failed.

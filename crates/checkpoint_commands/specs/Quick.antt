@@ -44,13 +44,14 @@ EndsQuick report (Told OldVersion) = Unit {0}
 EndsQuick report (Told OtherHistory) = ⊥
 
 -- The state that a history and the last whole checkpoint of a log make, of whose entries so many are taken: the state with which the
--- checkpoint begins it, gone on with by the entries behind those. Where the checkpoint is the history's own it is the state of the whole
--- history; so it is where there is none that can be taken up.
+-- checkpoint begins it, gone on with by the entries behind those. Where the checkpoint is the history's own, or there is none that can be
+-- taken up, it is the state of the whole history; so it is where no entry is taken.
 pub record IsStateFrom (history : List Entry) (last : Option Point) (taken : ℕ) (state : State) : Type 0 where
   pub begun : State
   pub begins : BeginsWith (length history) last taken begun
   pub is : state ≡ resumed begun taken history
   pub whole : IsOfHistory last history → state ≡ state_of history
+  pub unspared : taken ≡ 0 → state ≡ state_of history
 
 -- The journal has a history, within the limits, and POINT is a log of checkpoints; and so is the state that they make.
 pub record IsResumedFrom (journal point : List ℕ) (room : RoomView) : Type 0 where
@@ -86,7 +87,7 @@ pub record ExportsQuickly (journal point out : List ℕ) (report : Option (List 
   -- without one the outputs are there, or one could not be written, and the journal is durable
   pub exported : TellsNoFault o.end → o.old.tells ≡ true → IsExported journal point out report o
   pub durable : TellsNoFault o.end → o.old.tells ≡ true → IsDurable o.new journal
-  -- so where POINT's last checkpoint is the journal's own, or there is none, they are those of the whole history
+  -- so where POINT's last checkpoint is the journal's own, or there is none that can be taken up, they are those of the whole history
   pub whole : (entries : List Entry) → TellsNoFault o.end → o.end ≢ out_unwritten → o.old.tells ≡ true → HasHistory entries (log_bytes o.old journal)
       → ((last : Option Point) → IsPointLog last (log_bytes o.old point) → IsOfHistory last entries)
       → o.new.file out ≡ Some (export_of all_keys (state_of entries))

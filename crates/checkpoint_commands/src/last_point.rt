@@ -9,9 +9,8 @@ ghost use Rattle.checkpoint_commands.specs.PointLogs.{AreUntaken, IsOnlyRead, Is
 
 use crate::taking::{PointTaker, last_known};
 use checkpoint::{Point, PointFault, read_point};
-use commit_journal::{Frames, Version};
+use commit_journal::{Frames, Version, find_each};
 use durable_catalogue::{OpenFault, open_fault};
-use log_walk::find_each;
 use outside::Disk;
 use restoring::laws::a_found_checkpoint_is_in_order;
 use std::alloc::Global;
@@ -51,7 +50,7 @@ pub fn read_last<D: Disk>(alloc: Global, disk: D) -> (D, Result<Option<Point>, O
     let mut disk = disk;
     let mut taker = PointTaker::new();
     match find_each(alloc, &mut disk, &mut taker) {
-        Ok(version) => (disk, last_known(version, taker.known)),
+        Ok(end) => (disk, last_known(end.version, taker.known)),
         Err(fault) => (disk, Err(open_fault(fault))),
     }
 }

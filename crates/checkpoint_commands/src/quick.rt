@@ -17,6 +17,7 @@ use entry_history::EntryPayload;
 use journal_files::{HistoryEntries, close_history, fault_of_opening, open_history};
 use outside::{Room, Sink};
 use std::alloc::Global;
+use std::mem;
 
 /// Why the outputs of a state that a checkpoint begins aren't there.
 #[derive(Clone, Copy, Debug, PartialEq, Eq)]
@@ -57,7 +58,12 @@ fn write_from<R: Room>(
         return Err(QuickFault::Refused(OpenFault::NoMemory));
     };
     match write_outputs(alloc, room, out, report, &restored.engine) {
-        Ok(()) => Ok(restored.taken),
+        Ok(()) => {
+            let taken = restored.taken;
+            // the end of the process, which comes soon, gives its memory back
+            mem::forget(restored);
+            Ok(taken)
+        }
         Err(OutputsFault::Unwritten(which)) => Err(QuickFault::Unwritten(which)),
         Err(OutputsFault::NoMemory) => Err(QuickFault::Refused(OpenFault::NoMemory)),
     }
@@ -110,7 +116,11 @@ pub fn export_quickly<R: Room>(
     close_history(room, journal, log);
     match written {
         Ok(taken) => match write_resumed(console, taken, entries.len() as u64) {
-            Ok(()) => End::Done,
+            Ok(()) => {
+                // so with that of the entries
+                mem::forget(history);
+                End::Done
+            }
             Err(_) => End::Unwritten(Unwritten::Console),
         },
         Err(fault) => end_of_fault(console, fault),

@@ -7,11 +7,10 @@ ghost use Rattle.checkpoint_commands.specs.PointLogs.{AreUntaken};
 ghost use Rattle.checkpoint_commands.specs.Taking.{IsKnown};
 
 use checkpoint::{PartFault, Point, SoFar, read_part};
-use commit_journal::{Frame, Version};
+use commit_journal::{Frame, FrameTaker, Version};
 use durable_catalogue::OpenFault;
-use log_walk::FrameTaker;
 use marc_types::NoMemory;
-use std::alloc::Global;
+use std::alloc::{AllocError, Global};
 use std::mem;
 
 /// What is known of the frames of a log so far.
@@ -79,9 +78,14 @@ impl FrameTaker for PointTaker {
 
     ghost has = { λ taker frames. IsKnown frames taker.known };
 
-    fn take(&mut self, alloc: Global, frame: Frame) -> Result<(), NoMemory> {
+    fn take(&mut self, alloc: Global, frame: Frame) -> Result<(), AllocError> {
         let before = mem::replace(&mut self.known, Known::BadAt(0));
-        self.known = known_behind(alloc, before, &frame)?;
-        Ok(())
+        match known_behind(alloc, before, &frame) {
+            Ok(known) => {
+                self.known = known;
+                Ok(())
+            }
+            Err(NoMemory) => Err(AllocError),
+        }
     }
 }

@@ -9,3 +9,4 @@ pub mod Recoveries
 pub mod Faults
 pub mod Appends
 pub mod Chains
+pub mod Taken

@@ -2,3 +2,5 @@ pub mod Log
 pub mod Versions
 pub mod Journal
 pub mod Reading
+pub mod Taking
+pub mod Tails

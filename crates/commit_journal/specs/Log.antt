@@ -9,7 +9,7 @@ unfoldable pub first_differing : ℕ → List ℕ → List ℕ → List ℕ → 
 first_differing place (a ∷ first) (b ∷ second) (byte ∷ bytes) = if (byte == a) || (byte == b) then first_differing (place + 1) first second bytes else Some place
 first_differing place first second bytes = None
 
--- the place of the first byte of the header that is wrong in either version
+-- the place of the first byte of the header that is as in neither version
 abbrev pub header_fault : List ℕ → Option ℕ
 header_fault log = first_differing 0 HEADER_1 HEADER_2 (take FIRST_GATE log)
 

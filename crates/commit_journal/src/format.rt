@@ -46,7 +46,11 @@ pub const HEAD_BYTES: usize = 5;
 /// How many bytes the largest payload takes, with its length and the gate behind it.
 pub const FRAME_ROOM: usize = 3_201_030;
 
-/// The place of the first byte of a header that is wrong in either version.
+/// The most bytes that one append to a journal writes behind the closed gate, which is what the largest payload takes: who appends several
+/// payloads keeps them below it. One to a log of checkpoints may be longer.
+pub const LARGEST_APPEND: usize = 3_201_030;
+
+/// The place of the first byte of a header that is as in neither version.
 #[tactic(auto, unfolding(crate::specs::Log::first_differing))]
 fn wrong_place(header: &[u8; 16]) -> Option<usize>
     ensures { result ≡ first_differing 0 HEADER_1 HEADER_2 header.now }
@@ -71,7 +75,7 @@ fn version_of(header: &[u8; 16]) -> Version
     }
 }
 
-/// The version that a header names, or the place of its first byte that is wrong in either version.
+/// The version that a header names, or the place of its first byte that is as in neither version.
 pub fn header_version(header: &[u8; 16]) -> Result<Version, u64>
     ensures right { OnOk result (first_differing 0 HEADER_1 HEADER_2 header.now ≡ None) }
     ensures version { IfOk result (λ version. number_of version ≡ version_of_header header.now) }

@@ -1,35 +1,62 @@
 //! A log that was found on a disk, before anything is written to it.
-ghost use Rattle.std.specs.Prelude.{◌≡◌, ◌≤◌, false, List, vec_len, IfOk, IfErr, MatchResult};
+ghost use Rattle.std.specs.Prelude.{◌≡◌, ◌≤◌, false, List, [], vec_len, IfOk, IfErr, MatchResult};
 ghost use Rattle.outside.specs.Disk.{OnlyContent};
 ghost use Rattle.outside.specs.Fault.{Rose};
 ghost use Rattle.commit_journal.specs.declared.format.TheConstants.{FRAME_ROOM};
-ghost use Rattle.commit_journal.specs.declared.frame.Frame.{Frame};
+ghost use Rattle.commit_journal.specs.declared.frame.Frame.{Frame as AnyFrame};
 ghost use Rattle.commit_journal.specs.Journal.{IsFound, IsRecovered, IsSettling, Opens, HasOpenCause, Unwritten};
 ghost use Rattle.commit_journal.specs.Reading.{IsReadAt};
+ghost use Rattle.commit_journal.specs.Taking.{IsFoundFrom};
 ghost use Rattle.commit_journal.specs.Versions.{number_of};
 
 use crate::format::FRAME_ROOM;
-use crate::frame::Frames;
+use crate::frame::{Frame, Frames};
 use crate::journal::Journal;
-use crate::reading::{Log, read_log, zeros};
+use crate::reading::{LogEnd, take_log, zeros};
 use crate::settling::bring_into_order;
+use crate::taker::{FrameTaker, KeptFrames};
 use crate::{DeviceFault, JournalFault, Version};
 use outside::Disk;
 use std::alloc::Global;
 
-/// Takes the room for one frame, syncs, and reads the log.
-fn look<D: Disk>(alloc: Global, disk: &mut D) -> Result<(Vec<u8>, Log), JournalFault>
+/// Finds a log that a crash may have left, hands on its frames up to the first closed gate as they are read, and answers where it ends.
+/// It syncs and reads, and writes nothing. No two frames are in memory, but what the taker keeps. A fault may come behind any front of
+/// the frames.
+pub fn find_each<D: Disk, T: FrameTaker>(
+    alloc: Global,
+    disk: &mut D,
+    taker: &mut T,
+) -> Result<LogEnd, JournalFault>
+    requires none { T.has taker.old [] }
+    // The taker has the log's frames.
+    ensures found { IfOk result (λ end. IsFoundFrom (T.has taker.new) end.place (number_of end.version) (D.seen disk.old) (D.seen disk.new)) }
+
+    // Whatever it answers, every byte is as it was, and so is each image since a first sync that succeeded.
+    ensures unwritten { Unwritten (D.seen disk.old) (D.seen disk.new) }
+    ensures opens { Opens (D.seen disk.old) (D.seen disk.new) }
+    ensures later { (D.seen disk.old).faults ≤ (D.seen disk.new).faults }
+    ensures fault { IfErr result (HasOpenCause (D.seen disk.old) (D.seen disk.new)) }
+{
+    disk.sync()?;
+    let end = take_log(alloc, disk, taker)?;
+    Ok(end)
+}
+
+/// Takes the room for one frame, and finds the log with its frames.
+fn look<D: Disk>(alloc: Global, disk: &mut D) -> Result<(Vec<u8>, Vec<Frame>, LogEnd), JournalFault>
     ensures room { IfOk result (λ r. vec_len r.0 ≡ FRAME_ROOM) }
-    ensures found { IfOk result (λ r. IsFound r.1.frames.items r.1.place (number_of r.1.version) (D.seen disk.old) (D.seen disk.new)) }
+    ensures found { IfOk result (λ r. IsFound r.1.items r.2.place (number_of r.2.version) (D.seen disk.old) (D.seen disk.new)) }
     ensures unwritten { Unwritten (D.seen disk.old) (D.seen disk.new) }
     ensures opens { Opens (D.seen disk.old) (D.seen disk.new) }
     ensures later { (D.seen disk.old).faults ≤ (D.seen disk.new).faults }
     ensures fault { IfErr result (HasOpenCause (D.seen disk.old) (D.seen disk.new)) }
 {
     let buffer = zeros(alloc, FRAME_ROOM)?;
-    disk.sync()?;
-    let log = read_log(alloc, disk)?;
-    Ok((buffer, log))
+    let mut kept = KeptFrames {
+        items: Vec::new(alloc),
+    };
+    let end = find_each(alloc, disk, &mut kept)?;
+    Ok((buffer, kept.items, end))
 }
 
 /// A log that was found on a disk, which was synced and read. Nothing was written to it, so it can be left as it was; once it is settled
@@ -62,14 +89,14 @@ impl<D: Disk> FoundLog<D> {
     {
         let mut disk = disk;
         match look(alloc, &mut disk) {
-            Ok((buffer, log)) => {
+            Ok((buffer, frames, end)) => {
                 let found = FoundLog {
                     disk,
                     buffer,
-                    place: log.place,
-                    version: log.version,
+                    place: end.place,
+                    version: end.version,
                 };
-                Ok((found, Frames::from_vec(log.frames)))
+                Ok((found, Frames::from_vec(frames)))
             }
             Err(fault) => Err((disk, fault)),
         }
@@ -94,13 +121,13 @@ impl<D: Disk> FoundLog<D> {
     /// anew. A crash meanwhile leaves the same log. A fault hands the disk back.
     pub fn settle(self) -> Result<Journal<D>, (D, DeviceFault)>
         // The frames are those that were found on the disk as it was before, and the log is settled.
-        ensures recovered { IfOk result (λ j. (before : D) (frames : List Frame) → IsFound frames self.place (number_of self.version) (D.seen before) (D.seen self.disk)
+        ensures recovered { IfOk result (λ j. (before : D) (frames : List AnyFrame) → IsFound frames self.place (number_of self.version) (D.seen before) (D.seen self.disk)
             → IsRecovered frames j.place (number_of j.version) (D.seen before) (D.seen j.disk)) }
         ensures whole { IfOk result (λ j. j.broken ≡ false) }
         ensures version { IfOk result (λ j. j.version ≡ self.version) }
 
         // Each image since the first sync is the same log, and so is the content, whatever it answers.
-        ensures crash { (before : D) (frames : List Frame) → IsFound frames self.place (number_of self.version) (D.seen before) (D.seen self.disk)
+        ensures crash { (before : D) (frames : List AnyFrame) → IsFound frames self.place (number_of self.version) (D.seen before) (D.seen self.disk)
             → MatchResult result (λ j. IsSettling (D.seen before) (D.seen j.disk)) (λ e. IsSettling (D.seen before) (D.seen e.0)) }
 
         // It fails only where the count of faults rose.

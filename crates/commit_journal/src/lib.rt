@@ -15,15 +15,20 @@ mod journal;
 mod numbers;
 mod reading;
 mod settling;
+mod tail;
+mod taker;
 mod version;
 
 pub use fault::{DeviceFault, JournalFault};
 pub use format::{
-    BLANK_LENGTH, CLOSED_GATE, FIRST_GATE, HEAD_BYTES, HEADER_BYTES, LARGEST_PAYLOAD, LENGTH_BYTES,
-    header_version,
+    BLANK_LENGTH, CLOSED_GATE, DIGIT_1, FIRST_GATE, FRAME_ROOM, HEAD_BYTES, HEADER_2, HEADER_BYTES,
+    LARGEST_APPEND, LARGEST_PAYLOAD, LENGTH_BYTES, VERSION_PLACE, header_version,
 };
-pub use found::FoundLog;
+pub use found::{FoundLog, find_each};
 pub use frame::{Frame, Frames};
 pub use journal::Journal;
 pub use numbers::{long_number, short_number};
+pub use reading::LogEnd;
+pub use tail::{Tail, tail_behind};
+pub use taker::FrameTaker;
 pub use version::Version;

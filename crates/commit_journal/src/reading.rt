@@ -1,24 +1,26 @@
-ghost use Rattle.std.specs.Prelude.{◌≡◌, ℕ, ◌+◌, ◌-◌, ◌<◌, ◌≤◌, List, [], ◌∷◌, length, take, drop, Some, None, IfSome, IfOk, OnOk, OnErr, IsErrOf};
+ghost use Rattle.std.specs.Prelude.{◌≡◌, ℕ, ◌+◌, ◌-◌, ◌<◌, ◌≤◌, List, [], length, take, drop, Some, None, IfSome, IfOk, OnOk, IsErrOf};
 ghost use Rattle.outside.specs.Disk.{Unchanged};
 ghost use Rattle.outside.specs.Fault.{HasCause, Rose};
-ghost use Rattle.commit_journal.specs.Log.{header_fault, frames_of, version_of_header, walk, walk_of, closed_at, lost_at, behind};
-ghost use Rattle.commit_journal.specs.Reading.{HasRead, HeadSays, IsHead, HeadFits, IsStep, IsWalk, IsLog, IsReadFrom};
+ghost use Rattle.commit_journal.specs.Log.{header_fault, frames_of, version_of_header, walk, lost_at};
+ghost use Rattle.commit_journal.specs.Reading.{HasRead, HeadSays, IsHead, HeadFits, IsStep, IsWalk};
+ghost use Rattle.commit_journal.specs.Taking.{AreAllTaken, IsTakenFrom};
 ghost use Rattle.commit_journal.specs.Versions.{number_of};
 
 use crate::format::{
     BLANK_LENGTH, CLOSED_GATE, FIRST_GATE, HEAD_BYTES, LARGEST_PAYLOAD, header_version,
 };
 use crate::frame::Frame;
+use crate::taker::FrameTaker;
 use crate::{JournalFault, Version, calls};
 use outside::{Bytes, Disk, Failed};
 use std::alloc::{AllocError, Global};
 
-/// What stands in a log up to its first closed gate.
-#[derive(Debug, Drop)]
-pub struct Log {
-    pub frames: Vec<Frame>,
+/// Where a log ends.
+#[derive(Clone, Copy, Debug, PartialEq, Eq)]
+pub struct LogEnd {
     /// The place of the first closed gate.
     pub place: u64,
+    /// The log's version, the newest where it is blank.
     pub version: Version,
 }
 
@@ -125,27 +127,32 @@ fn read_frame<D: Disk>(
     }
 }
 
-/// The frames up to the first closed gate, and its place.
-fn read_frames<D: Disk>(alloc: Global, disk: &mut D) -> Result<(Vec<Frame>, u64), JournalFault>
-    requires { FIRST_GATE < (D.seen disk.old).len }
-    ensures walked { IfOk result (λ r. (b : List ℕ) → (D.seen disk.old).content ≡ Some b → walk_of b ≡ behind r.0.items (closed_at r.1)) }
-    ensures within { IfOk result (λ r. r.1 < (D.seen disk.old).len) }
-    ensures least { IfOk result (λ r. FIRST_GATE ≤ r.1) }
+/// Hands on the frames up to the first closed gate, and answers its place. The bytes of one frame are in memory.
+fn take_frames<D: Disk, T: FrameTaker>(
+    alloc: Global,
+    disk: &mut D,
+    taker: &mut T,
+) -> Result<u64, JournalFault>
+    requires long { FIRST_GATE < (D.seen disk.old).len }
+    requires none { T.has taker.old [] }
+    ensures taken { IfOk result (λ place. AreAllTaken (T.has taker.new) place (D.seen disk.old)) }
     ensures lost { (wrong : ℕ) → IsErrOf result (JournalFault.NotAJournal wrong) → (b : List ℕ) → (D.seen disk.old).content ≡ Some b
         → IsWalk wrong b }
     ensures read { HasRead (D.seen disk.old) (D.seen disk.new) result }
 {
-    let mut frames = Vec::new(alloc);
     let mut place = FIRST_GATE;
-    while let Some(payload) = read_frame(alloc, disk, place)? {
+    'gates: while let Some(payload) = read_frame(alloc, disk, place)? {
         let next = place + (HEAD_BYTES + payload.len()) as u64;
-        frames.push(Frame {
-            gate: place,
-            payload,
-        })?;
+        taker.take(
+            alloc,
+            Frame {
+                gate: place,
+                payload,
+            },
+        )?;
         place = next;
     }
-    Ok((frames, place))
+    Ok(place)
 }
 
 /// A right header's version.
@@ -165,37 +172,41 @@ fn read_header<D: Disk>(disk: &mut D) -> Result<Version, JournalFault>
     }
 }
 
-/// What stands in a log that isn't blank, up to its first closed gate.
-fn read_journal<D: Disk>(alloc: Global, disk: &mut D) -> Result<Log, JournalFault>
-    requires { BLANK_LENGTH < (D.seen disk.old).len }
-    ensures log { IfOk result (λ log. (b : List ℕ) → (D.seen disk.old).content ≡ Some b → IsLog log.frames.items log.place (number_of log.version) b) }
-    ensures within { IfOk result (λ log. log.place < (D.seen disk.old).len) }
+/// Hands on the frames of a log that isn't blank, and answers where it ends.
+fn take_journal<D: Disk, T: FrameTaker>(
+    alloc: Global,
+    disk: &mut D,
+    taker: &mut T,
+) -> Result<LogEnd, JournalFault>
+    requires long { BLANK_LENGTH < (D.seen disk.old).len }
+    requires none { T.has taker.old [] }
+    ensures taken { IfOk result (λ end. IsTakenFrom (T.has taker.new) end.place (number_of end.version) (D.seen disk.old)) }
     ensures lost { (wrong : ℕ) → IsErrOf result (JournalFault.NotAJournal wrong) → (b : List ℕ) → (D.seen disk.old).content ≡ Some b
         → frames_of b ≡ Err wrong }
     ensures read { HasRead (D.seen disk.old) (D.seen disk.new) result }
 {
     let version = read_header(disk)?;
-    let (frames, place) = read_frames(alloc, disk)?;
-    Ok(Log {
-        frames,
-        place,
-        version,
-    })
+    let place = take_frames(alloc, disk, taker)?;
+    Ok(LogEnd { place, version })
 }
 
-/// What stands in a log, up to its first closed gate. A blank one has no frames.
-pub fn read_log<D: Disk>(alloc: Global, disk: &mut D) -> Result<Log, JournalFault>
-    ensures log { IfOk result (λ log. IsReadFrom log.frames.items log.place (number_of log.version) (D.seen disk.old)) }
+/// Hands on the frames of a log up to its first closed gate, and answers where it ends. A blank one has no frames.
+pub fn take_log<D: Disk, T: FrameTaker>(
+    alloc: Global,
+    disk: &mut D,
+    taker: &mut T,
+) -> Result<LogEnd, JournalFault>
+    requires none { T.has taker.old [] }
+    ensures taken { IfOk result (λ end. IsTakenFrom (T.has taker.new) end.place (number_of end.version) (D.seen disk.old)) }
     ensures lost { (wrong : ℕ) → IsErrOf result (JournalFault.NotAJournal wrong) → (b : List ℕ) → (D.seen disk.old).content ≡ Some b
         → frames_of b ≡ Err wrong }
     ensures read { HasRead (D.seen disk.old) (D.seen disk.new) result }
 {
     if disk.len() <= BLANK_LENGTH {
-        return Ok(Log {
-            frames: Vec::new(alloc),
+        return Ok(LogEnd {
             place: FIRST_GATE,
             version: Version::Two,
         });
     }
-    read_journal(alloc, disk)
+    take_journal(alloc, disk, taker)
 }

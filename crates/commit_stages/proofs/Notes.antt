@@ -17,10 +17,12 @@ use Rattle.catalogue_rules.specs.Store.{field_under}
 use Rattle.catalogue_tables.specs.Seam.{AreDistinct, HasKey, KeyLists, place_at, seat_of}
 use Rattle.catalogue_tables.proofs.Seams.{noted_more, seat_alike, seat_back}
 use Rattle.linking_laws.specs.Partway.{IsPartway, IsWhole, is_place_among, same_place}
+use Rattle.linking_laws.proofs.Sames.{kept_Decides}
+use Rattle.field_settling.specs.Held.{held_as}
 use Rattle.field_settling.specs.declared.held.Held.{Held}
 use Rattle.linked_store.specs.Linked.{IsAhead, Linked, ListsSeats, field_of}
-use Rattle.commit_stages.specs.Noted.{AreNoted, NotesChanges, changes_at, is_another, noted_for, noted_with}
-use Rattle.commit_stages.specs.Turns.{IsMadeOf}
+use Rattle.commit_stages.specs.Noted.{AreNoted, IsOther, NotesChanges, changes_at, is_another, noted_for, noted_with}
+use Rattle.commit_stages.specs.Turns.{IsMade, IsMadeOf}
 use Rattle.commit_stages.proofs.Looping.{listed_next, next_still, one_more}
 use Rattle.commit_stages.proofs.Sames.{kept_alike}
 use Rattle.commit_stages.proofs.Turning.{known_there}
@@ -39,10 +41,23 @@ another_change : (change : Class → KeptField → KeptField) (seat : Seat) (x :
 another_change change seat x h None there is = sym (changes_there change seat x h there ∙ ap (λ (g : KeptField). not (same_kept h g)) (is h there) ∙ ap not (kept_alike h))
 another_change change seat x h (Some held) there is = ap (λ (g : KeptField). not (same_kept h g)) (is.made_is h there) ∙ sym (changes_there change seat x h there)
 
+same_there : (h k : KeptField) → Some h ≡ Some k → h ≡ k
+same_there h k e = cc
+
 pub notes_made : (change : Class → KeptField → KeptField) (seat : Seat) (x : Linked) (h : KeptField) (made : Option Held) (before now : List Seat)
     → now ≡ noted_for made h seat before → Some h ≡ field_of seat x → IsMadeOf change seat x made → now ≡ noted_with change x seat before
 notes_made change seat x h made before now is there made_of =
     is ∙ ap (λ (b : Bool). if b then with_thing same_seat before seat else before) (another_change change seat x h made (sym there) made_of)
+
+-- a field that is the one found is the same as it
+pub same_found : (h g : KeptField) → same_kept h g ≡ true → g ≡ h
+same_found h g same = sym ((kept_Decides h g).0 same)
+
+-- what the stage makes of the field stays the same, where nothing else than was found is to come
+pub other_made : (change : Class → KeptField → KeptField) (seat : Seat) (x : Linked) (h : KeptField) (held : Held) (made : Option Held)
+    → IsOther held h made → Some h ≡ field_of seat x → IsMade change seat x (held_as held) → IsMadeOf change seat x made
+other_made change seat x h held None same there is = λ k at. sym (is.made_is k at) ∙ same ∙ same_there h k (there ∙ at)
+other_made change seat x h held (Some made) same there is = subst (λ (m : Held). IsMade change seat x (held_as m)) (sym same) is
 
 -- where no field stands, nothing is noted
 pub notes_nothing : (change : Class → KeptField → KeptField) (seat : Seat) (x : Linked) (before : List Seat) → None ≡ field_of seat x → before ≡ noted_with change x seat before

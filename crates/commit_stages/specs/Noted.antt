@@ -1,5 +1,5 @@
 -- The seats that stages note: those whose field they make into another one, from which a commit counts the records that it changed.
-use Rattle.std.specs.Prelude.{◌≡◌, ℕ, ◌+◌, ◌==◌, Bool, true, false, not, ◌&&◌, ◌||◌, List, length, nat_eq, Option, if◌then◌else◌}
+use Rattle.std.specs.Prelude.{◌≡◌, ℕ, ◌+◌, ◌==◌, Bool, true, false, not, ◌&&◌, ◌||◌, List, length, nat_eq, Option, None, Some, if◌then◌else◌}
 use Rattle.std.specs.List.{IsDistinct, list_any}
 use Rattle.std.specs.Option.{option_map_or}
 use Rattle.marc_types.specs.declared.key.Class.{Class}
@@ -22,6 +22,11 @@ changes_at change x seat = option_map_or (λ h. not (same_kept h (change seat.cl
 -- there is something to come, and it isn't the field that was found
 abbrev pub is_another : Option Held → KeptField → Bool
 is_another made h = option_map_or (λ held. not (same_kept h (held_as held))) made false
+
+-- what was to come, unless it is the field that was found
+abbrev pub IsOther : Held → KeptField → Option Held → Type 0
+IsOther held h None = held_as held ≡ h
+IsOther held h (Some made) = made ≡ held
 
 -- the seat is noted too, where that is so
 abbrev pub noted_for : Option Held → KeptField → Seat → List Seat → List Seat

@@ -17,7 +17,7 @@ ghost use Rattle.commit_stages.specs.Carrying.{CanCarry, IsHeadingOf, carry_head
 
 use crate::exchanging::exchange_made;
 use crate::headings::look_at_heading;
-use crate::noting::note_change;
+use crate::noting::note_another;
 use crate::visiting::{lent, visit_field};
 use catalogue_rules::Steps;
 use field_settling::{Heading, Held, link_to};
@@ -139,7 +139,7 @@ fn carry_at<L: Ledger>(
     exchange_made(store, alloc, seat, made)
 }
 
-// The field at a seat with the heading carried to it; the seat is noted where that is another field.
+// The field at a seat with the heading carried to it, where that is another field: then the seat is noted.
 fn carried<L: Ledger>(
     store: &LinkedStore,
     alloc: Global,
@@ -160,9 +160,7 @@ fn carried<L: Ledger>(
         Some(found) => {
             let at = lent(&found);
             let held = link_to(alloc, key, heading, seat.class, at.field, at.tie.whole)?;
-            let made = Some(held);
-            note_change(alloc, seat, at, &made, noted)?;
-            Ok(made)
+            note_another(alloc, seat, at, held, noted)
         }
         None => Ok(None),
     }

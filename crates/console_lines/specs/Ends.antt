@@ -56,6 +56,14 @@ pub data IsResultTold (old new : Option (List ℕ)) (before now : ℕ) (text : L
   ResultTold : end ≡ end_of refused → Appends old new text → IsResultTold old new before now text refused end
   ResultUntold : end ≡ console_unwritten → Rose before now → WritesFront old new text → IsResultTold old new before now text refused end
 
+-- a console was told what was done, as far as it could be written, and the command ends so
+abbrev pub TellsResult : {K : Type 0} → (K → Option (List ℕ)) → (K → ℕ) → K → K → List ℕ → Bool → End → Type 0
+TellsResult written faults old new text refused end = IsResultTold (written old) (written new) (faults old) (faults new) text refused end
+
+-- a console was told nothing, and met no fault
+abbrev pub TellsNothing : {K : Type 0} → (K → Option (List ℕ)) → (K → ℕ) → K → K → Type 0
+TellsNothing written faults old new = (written new ≡ written old) × (faults new ≡ faults old)
+
 -- What a command did: the room before and after, what the console had been told and is told now, its faults, and the end.
 pub record Outcome : Type 1 where
   pub old : RoomView

@@ -33,3 +33,7 @@ fault_line OtherHistory = codes "union_cat: other history\n"
 pub data IsFaultTold (old new : Option (List ℕ)) (before now : ℕ) (line : List ℕ) : Type 0 where
   Told : before ≤ now → Appends old new line → IsFaultTold old new before now line
   Untold : Rose before now → WritesFront old new line → IsFaultTold old new before now line
+
+-- a console was told a fault, as far as it could be written
+abbrev pub TellsFault : {K : Type 0} → (K → Option (List ℕ)) → (K → ℕ) → K → K → Fault → Type 0
+TellsFault written faults old new fault = IsFaultTold (written old) (written new) (faults old) (faults new) (fault_line fault)

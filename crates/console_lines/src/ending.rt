@@ -1,7 +1,7 @@
 //! How a command ends that wrote its output, or tells its results.
 ghost use Rattle.std.specs.Prelude.{◌≡◌, OnOk, IsErrOf};
-ghost use Rattle.console_lines.specs.Ends.{IsResultTold, out_unwritten};
-ghost use Rattle.console_lines.specs.Faults.{IsFaultTold, fault_line};
+ghost use Rattle.console_lines.specs.Ends.{TellsResult, TellsNothing, out_unwritten};
+ghost use Rattle.console_lines.specs.Faults.{TellsFault};
 ghost use Rattle.console_lines.specs.declared.end.Unwritten.{Unwritten};
 
 use crate::end::{End, OutputsFault, Unwritten};
@@ -10,7 +10,7 @@ use outside::{Sink, WriteFault};
 
 /// Tells the console the text of what was done, and ends by whether something was refused.
 pub fn tell_result<K: Sink>(console: &mut K, text: &str, refused: bool) -> End
-    ensures { IsResultTold (K.written console.old) (K.written console.new) (K.faults console.old) (K.faults console.new) text.now refused result }
+    ensures { TellsResult K.written K.faults console.old console.new text.now refused result }
 {
     match console.write_all(text.as_bytes()) {
         Ok(()) => End::of(refused),
@@ -23,10 +23,8 @@ pub fn end_of_output<K: Sink>(console: &mut K, written: Result<(), WriteFault>) 
     ensures done { OnOk written (result ≡ End.Done) }
     ensures failed { IsErrOf written WriteFault.OutputFault → result ≡ out_unwritten }
     ensures memory { IsErrOf written WriteFault.NoMemory → result ≡ End.Told Fault.Memory }
-    ensures told { IsErrOf written WriteFault.NoMemory →
-        IsFaultTold (K.written console.old) (K.written console.new) (K.faults console.old) (K.faults console.new) (fault_line Fault.Memory) }
-    ensures silent { (IsErrOf written WriteFault.NoMemory → ⊥) →
-        (K.written console.new ≡ K.written console.old) × (K.faults console.new ≡ K.faults console.old) }
+    ensures told { IsErrOf written WriteFault.NoMemory → TellsFault K.written K.faults console.old console.new Fault.Memory }
+    ensures silent { (IsErrOf written WriteFault.NoMemory → ⊥) → TellsNothing K.written K.faults console.old console.new }
 {
     match written {
         Ok(()) => End::Done,
@@ -43,14 +41,12 @@ pub fn end_of_outputs<K: Sink>(
     text: &str,
     refused: bool,
 ) -> End
-    ensures whole { OnOk written
-        (IsResultTold (K.written console.old) (K.written console.new) (K.faults console.old) (K.faults console.new) text.now refused result) }
+    ensures whole { OnOk written (TellsResult K.written K.faults console.old console.new text.now refused result) }
     ensures unwritten { (which : Unwritten) → IsErrOf written (OutputsFault.Unwritten which) → result ≡ End.Unwritten which }
     ensures silent { (which : Unwritten) → IsErrOf written (OutputsFault.Unwritten which) →
-        (K.written console.new ≡ K.written console.old) × (K.faults console.new ≡ K.faults console.old) }
+        TellsNothing K.written K.faults console.old console.new }
     ensures memory { IsErrOf written OutputsFault.NoMemory → result ≡ End.Told Fault.Memory }
-    ensures told { IsErrOf written OutputsFault.NoMemory →
-        IsFaultTold (K.written console.old) (K.written console.new) (K.faults console.old) (K.faults console.new) (fault_line Fault.Memory) }
+    ensures told { IsErrOf written OutputsFault.NoMemory → TellsFault K.written K.faults console.old console.new Fault.Memory }
 {
     match written {
         Ok(()) => tell_result(console, text, refused),

@@ -2,7 +2,7 @@ ghost use Rattle.std.specs.Prelude.{◌≡◌, OnOk};
 ghost use Rattle.std.specs.Io.KnownBytes.{Appends};
 ghost use Rattle.outside.specs.Fault.{HasCause};
 ghost use Rattle.outside.specs.Sink.{WritesFront};
-ghost use Rattle.console_lines.specs.Faults.{fault_status, fault_line, IsFaultTold};
+ghost use Rattle.console_lines.specs.Faults.{fault_status, fault_line, TellsFault};
 
 use crate::end::End;
 use crate::numbered::write_numbered;
@@ -71,7 +71,7 @@ fn write_fault<K: Sink>(console: &mut K, fault: Fault) -> Result<(), Failed>
 /// Tells a fault on the console, as far as that can be written, and ends with it. It takes no memory.
 pub fn tell<K: Sink>(console: &mut K, fault: Fault) -> End
     ensures end { result ≡ End.Told fault }
-    ensures told { IsFaultTold (K.written console.old) (K.written console.new) (K.faults console.old) (K.faults console.new) (fault_line fault) }
+    ensures told { TellsFault K.written K.faults console.old console.new fault }
 {
     // A failure to write the line changes nothing.
     let _ = write_fault(console, fault);

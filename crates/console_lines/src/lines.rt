@@ -1,5 +1,4 @@
-ghost use Rattle.std.specs.Prelude.{◌≡◌, ◌++◌, ℕ, List, IfOk, string_bytes, codes};
-ghost use Rattle.std.specs.Fmt.{decimal};
+ghost use Rattle.std.specs.Prelude.{◌≡◌, IfOk, string_bytes};
 ghost use Rattle.console_lines.specs.Lines.{set_name, reason_of, refused_line};
 
 use file_entries::RefusedItem;
@@ -31,26 +30,25 @@ fn plain(alloc: Global, text: &str) -> Result<String, NoMemory>
 }
 
 fn bad_directory(alloc: Global, entry: u32) -> Result<String, NoMemory>
-    ensures { IfOk result (λ made. string_bytes made ≡ codes "bad directory at entry " ++ decimal entry) }
+    ensures { IfOk result (λ made. string_bytes made ≡ reason_of (Refusal.BadDirectory entry)) }
 {
     Ok(format!(in alloc; "bad directory at entry {entry}")?)
 }
 
 fn bad_field(alloc: Global, entry: u32) -> Result<String, NoMemory>
-    ensures { IfOk result (λ made. string_bytes made ≡ codes "bad field at entry " ++ decimal entry) }
+    ensures { IfOk result (λ made. string_bytes made ≡ reason_of (Refusal.BadField entry)) }
 {
     Ok(format!(in alloc; "bad field at entry {entry}")?)
 }
 
 fn bad_text(alloc: Global, entry: u32, offset: u32) -> Result<String, NoMemory>
-    ensures { IfOk result (λ made. string_bytes made ≡ codes "bad text in entry " ++ decimal entry ++ codes " at " ++ decimal offset) }
+    ensures { IfOk result (λ made. string_bytes made ≡ reason_of (Refusal.BadText entry offset)) }
 {
     Ok(format!(in alloc; "bad text in entry {entry} at {offset}")?)
 }
 
 fn other_set(alloc: Global, set: Set, entry: u32, offset: u32) -> Result<String, NoMemory>
-    ensures { IfOk result (λ made. string_bytes made ≡
-        codes "other set " ++ set_name set ++ codes " in entry " ++ decimal entry ++ codes " at " ++ decimal offset) }
+    ensures { IfOk result (λ made. string_bytes made ≡ reason_of (Refusal.OtherSet set entry offset)) }
 {
     let name = name_of(set);
     Ok(format!(in alloc; "other set {name} in entry {entry} at {offset}")?)

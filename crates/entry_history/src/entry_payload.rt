@@ -103,6 +103,14 @@ impl EntryPayload {
         self.payload.as_slice()
     }
 
+    /// Gives the payload up; takes no memory.
+    pub fn into_payload(self) -> Bytes
+        ensures { IsPayload self result }
+    {
+        let kept = self;
+        kept.payload
+    }
+
     /// The entry, prepared again from its payload.
     pub fn prepare(&self, alloc: Global) -> Result<Prepared, NoMemory>
         ensures { IfOk result (λ item. item ≡ self.now) }

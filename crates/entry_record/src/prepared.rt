@@ -1,11 +1,13 @@
 //! Entries, each with all that a catalogue asks of it.
 ghost use Rattle.std.specs.Prelude.{◌≡◌, ◌≤◌, None, map, IsTrue, IfOk, OnOk, IfErr};
+ghost use Rattle.std.specs.Option.{option_copied};
 ghost use Rattle.marc_types.specs.Valid.{is_code};
 ghost use Rattle.entry_record.specs.Admission.{admission_refusal};
 ghost use Rattle.entry_record.specs.History.{IsAdmitted, entry_size, in_run};
 ghost use Rattle.entry_record.specs.Answers.{IsRefusalOf};
 ghost use Rattle.entry_record.specs.Headings.{heading_forms};
-ghost use Rattle.entry_record.specs.Prepared.{new_entry};
+ghost use Rattle.entry_record.specs.Identity.{is_deletion};
+ghost use Rattle.entry_record.specs.Prepared.{established_of, new_entry};
 
 use crate::admission::{Examined, examine};
 use crate::facts::{Facts, facts_of};
@@ -13,7 +15,7 @@ use crate::headings::Headings;
 use crate::identity::class_of;
 use crate::preparation::Preparation;
 use iso2709_record::encoded_len;
-use marc_types::{Entry, NoMemory, Record, RecordFault, Text, TryCopy};
+use marc_types::{Entry, Form, NoMemory, Record, RecordFault, Text, TryCopy};
 use std::alloc::Global;
 use std::marker::Model;
 
@@ -58,6 +60,20 @@ impl Prepared {
     {
         let Prepared { entry, facts, .. } = self;
         Preparation::of_entry(entry, facts)
+    }
+
+    /// Whether the entry takes away what stands under its key.
+    pub fn is_deletion(&self) -> bool
+        ensures { result ≡ is_deletion self.now.rec.leader }
+    {
+        self.facts.deletes
+    }
+
+    /// The form under which fields are put under the entry's authority; none where they can't be.
+    pub fn established(&self) -> Option<&Form>
+        ensures { option_copied result ≡ established_of self.now }
+    {
+        self.facts.established.as_ref()
     }
 
     /// Puts the entry into a run; takes no memory.

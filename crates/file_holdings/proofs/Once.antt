@@ -17,6 +17,7 @@ use Rattle.holdings.specs.declared.refusal.HoldingRefusal.TheVariants.{OfRecord}
 use Rattle.file_entries.proofs.Lasts.{last_same, has_last}
 use Rattle.file_holdings.specs.Making.{MakesHolding, IsNoHolding, Unread, NotTaken}
 use Rattle.file_holdings.specs.Files.{IsHoldingItem, IsRefusedItem, NoPiece, NoHolding, AreHoldings, NoItem, Accepts, Refuses, listed}
+use Rattle.file_holdings.specs.Judgement.{AreJudgedOnce}
 use Rattle.file_holdings.specs.declared.refused.RefusedHolding.{RefusedHolding}
 use denote.Struct.Props.{props}
 use mathlib.Core.HLevel.{is_prop→PathP}
@@ -140,10 +141,8 @@ same_judged library _ _ _ _ _ _ same (Refuses xs one r x why p is) (Refuses ys o
     let last = listed_once library x y why reason both.1 is so in
     record { held = before.held; refused = λ k. before.refused k ++ last k ∷ [] }
 
-pub holdings_once : (library : List ℕ) (items : List Item) (one other : List Holding) (r s : List RefusedHolding)
-    → AreHoldings library items one r → AreHoldings library items other s → one ≡ other
-holdings_once library items one other r s p q = (same_judged library items items one other r s refl p q).held
-
-pub refused_once : (library : List ℕ) (items : List Item) (one other : List Holding) (r s : List RefusedHolding)
-    → AreHoldings library items one r → AreHoldings library items other s → r ≡ s
-refused_once library items one other r s p q = (same_judged library items items one other r s refl p q).refused
+pub judged_once : (library : List ℕ) (items : List Item) → AreJudgedOnce library items
+judged_once library items = record {
+  accepted = λ one other r s p q. (same_judged library items items one other r s refl p q).held;
+  refused = λ one other r s p q. (same_judged library items items one other r s refl p q).refused;
+}

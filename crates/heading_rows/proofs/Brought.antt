@@ -21,20 +21,13 @@ forms_are : (o : Option Linkable) → established_in o ≡ option_map (λ r. r.f
 forms_are None = refl
 forms_are (Some c) = refl
 
-row_told : (key : Key) (fields : List Field) (form : Option Form) → form ≡ established_in (linkable_of key fields) →
+by_forms : (key : Key) (fields : List Field) (form : Option Form) → form ≡ established_in (linkable_of key fields) →
     option_map (λ form. browse_row form key) form ≡ row_in key fields
 unfolding row_in
-row_told key fields form e =
+by_forms key fields form e =
     ap (option_map (λ form. browse_row form key)) (e ∙ forms_are (linkable_of key fields)) ∙ by_form key (option_map row_of (linkable_of key fields)) (row_keyed key fields)
 
-in_class : (class : Class) (key : Key) (fields : List Field) (form : Option Form) → class ≡ Authority → form ≡ established_in (authority_in class key fields) →
-    form ≡ established_in (linkable_of key fields)
-in_class class key fields form own e = e ∙ ap (λ c. established_in (authority_in c key fields)) own
-
 -- the row of the form, and none where there is no form
-pub told_some : (class : Class) (key : Key) (fields : List Field) (form : Form) → class ≡ Authority → Some form ≡ established_in (authority_in class key fields) →
-    Some (browse_row form key) ≡ row_in key fields
-told_some class key fields form own e = row_told key fields (Some form) (in_class class key fields (Some form) own e)
-
-pub told_none : (class : Class) (key : Key) (fields : List Field) → class ≡ Authority → None ≡ established_in (authority_in class key fields) → None ≡ row_in key fields
-told_none class key fields own e = row_told key fields None (in_class class key fields None own e)
+pub row_told : (class : Class) (key : Key) (fields : List Field) (form : Option Form) → class ≡ Authority → form ≡ established_in (authority_in class key fields) →
+    option_map (λ form. browse_row form key) form ≡ row_in key fields
+row_told class key fields form own e = by_forms key fields form (e ∙ ap (λ c. established_in (authority_in c key fields)) own)

@@ -1,12 +1,14 @@
 //! What a table of rows takes of an entry.
 ghost use Rattle.std.specs.Prelude.{◌≡◌, IfOk};
+ghost use Rattle.std.specs.Option.{option_copied, option_map};
 ghost use Rattle.marc_types.specs.declared.key.Class.TheVariants.{Authority};
 ghost use Rattle.catalogue_rules.specs.Settle.{arrival_of};
 ghost use Rattle.heading_rows.specs.Listing.{change_of, row_in};
+ghost use Rattle.heading_rows.specs.Rows.{browse_row};
 
 use crate::shared_row::SharedRow;
 use entry_record::{Preparation, Prepared};
-use marc_types::{Class, Entry, Key, NoMemory, Sequence, TryCopy};
+use marc_types::{Class, Entry, Form, Key, NoMemory, Sequence, TryCopy};
 use std::alloc::Global;
 use std::marker::Model;
 use std::snapshot::Snapshot;
@@ -41,8 +43,17 @@ impl Model for KeyedChange {
     ghost invariant = { λ h. (h.key ≡ h.whole.value.key) × (h.change ≡ change_of (arrival_of h.whole.value)) };
 }
 
+/// The row of a form under a key, if there is a form.
+fn row_of_form(alloc: Global, form: Option<&Form>, key: &Key) -> Result<Option<SharedRow>, NoMemory>
+    ensures { IfOk result (λ row. row ≡ option_map (λ form. browse_row form key.now) (option_copied form.entry)) }
+{
+    match form {
+        Some(form) => Ok(Some(SharedRow::of(alloc, form, key)?)),
+        None => Ok(None),
+    }
+}
+
 /// The row of an authority, if fields can be linked to it.
-#[tactic(auto, using(crate::proofs::Brought::told_some, crate::proofs::Brought::told_none))]
 pub(crate) fn established_row(
     alloc: Global,
     preparation: &Preparation,
@@ -50,10 +61,15 @@ pub(crate) fn established_row(
     requires { preparation.now.class ≡ Authority }
     ensures { IfOk result (λ row. row ≡ row_in preparation.now.key preparation.now.rec.fields) }
 {
-    match preparation.established() {
-        Some(form) => Ok(Some(SharedRow::of(alloc, form, preparation.key())?)),
-        None => Ok(None),
-    }
+    row_of_form(alloc, preparation.established(), preparation.key())
+}
+
+/// The same, of an entry that was prepared for a commit.
+fn prepared_row(alloc: Global, item: &Prepared) -> Result<Option<SharedRow>, NoMemory>
+    requires { item.now.class ≡ Authority }
+    ensures { IfOk result (λ row. row ≡ row_in item.now.key item.now.rec.fields) }
+{
+    row_of_form(alloc, item.established(), &item.entry().key)
 }
 
 /// What an entry does to the authorities, of what was prepared of it.
@@ -78,11 +94,12 @@ fn change_by(alloc: Global, item: &Prepared) -> Result<Change, NoMemory>
     ensures { IfOk result (λ change. change ≡ change_of (arrival_of item.now)) }
 {
     match item.entry().class {
-        // a publication does nothing here, and isn't copied
         Class::Bibliographic => Ok(Change::Nothing),
         Class::Authority => {
-            let (_, preparation) = item.copy(alloc)?.into_parts();
-            change_of(alloc, &preparation)
+            if item.is_deletion() {
+                return Ok(Change::TakenAway);
+            }
+            Ok(Change::Kept(prepared_row(alloc, item)?))
         }
     }
 }

@@ -1,7 +1,9 @@
 -- What is written of a catalogue's records and a shelf of holdings. Source of the written form: ISO 2709, as the MARC 21
 -- Specifications for Record Structure use it. Which records are written, and in which order, is this project's own rule.
 use Rattle.std.specs.Prelude.{ℕ, Bool, not, List, [], ◌++◌, filter, Option, is_some, unwrap_or}
+use Rattle.std.specs.Borrow.{Bor}
 use Rattle.std.specs.List.{flat_map}
+use Rattle.std.specs.Option.{option_copied}
 use Rattle.marc_types.specs.declared.key.Class.TheVariants.{Bibliographic}
 use Rattle.marc_types.specs.declared.key.Key.{Key}
 use Rattle.catalogue_rules.specs.State.{Row, State}
@@ -13,9 +15,13 @@ use Rattle.holdings.specs.Shelves.{ShelfRow, written_holding, target_of_row, hol
 abbrev pub state_of_rows : List Row → List Row → State
 state_of_rows authorities bibliographic = record { authorities = authorities; bibliographic = bibliographic }
 
+-- the holdings of the record under a key
+abbrev pub written_holdings : Key → List ShelfRow → List ℕ
+written_holdings key shelf = flat_map written_holding (holdings_of key shelf)
+
 -- a record, and its holdings on the shelf behind it
 abbrev pub with_holdings : List ShelfRow → Row → List ℕ
-with_holdings shelf row = written_row row ++ flat_map written_holding (holdings_of row.0 shelf)
+with_holdings shelf row = written_row row ++ written_holdings row.0 shelf
 
 -- the selected records, each with its holdings behind it
 abbrev pub rows_with_holdings : (Key → Bool) → List ShelfRow → List Row → List ℕ
@@ -48,3 +54,7 @@ holdings_rest s shelf = flat_map written_holding (waiting_holdings s shelf)
 -- the holdings on a shelf that may be there
 abbrev pub shelf_or_none : Option (List ShelfRow) → List ShelfRow
 shelf_or_none shelf = unwrap_or shelf []
+
+-- the same of one that is lent
+abbrev pub lent_shelf : Option (Bor (List ShelfRow)) → List ShelfRow
+lent_shelf shelf = shelf_or_none (option_copied shelf)

@@ -1,13 +1,11 @@
 //! What is written of a catalogue's records and a shelf of holdings.
 ghost use Rattle.std.specs.Prelude.{OnOk, map};
-ghost use Rattle.std.specs.Option.{option_copied};
-ghost use Rattle.std.specs.List.{flat_map};
 ghost use Rattle.std.specs.Io.KnownBytes.{Appends};
 ghost use Rattle.outside.specs.Fault.{HasCause};
 ghost use Rattle.outside.specs.Sink.{WritesFront};
 ghost use Rattle.selection.specs.Selections.{ForSelected, IsCallable};
-ghost use Rattle.holdings.specs.Shelves.{written_holding, holdings_of};
-ghost use Rattle.holdings_export.specs.Output.{with_holdings, rows_with_holdings, holdings_export, shelf_or_none};
+ghost use Rattle.holdings_export.specs.Output.{with_holdings, written_holdings, lent_shelf};
+ghost use Rattle.holdings_export.specs.Written.{WritesHoldings, WritesHoldingsFront, WritesRows, WritesRowsFront};
 ghost use Rattle.numbered_store.specs.Kept.{kept_record, shown_row};
 
 use crate::listing::Listing;
@@ -23,10 +21,8 @@ fn write_group<K: Sink>(
     groups: Option<&HoldingGroups<'_>>,
     out: &mut K,
 ) -> Result<(), Failed>
-    ensures bytes { OnOk result (Appends (K.written out.old) (K.written out.new)
-        (flat_map written_holding (holdings_of key.now (shelf_or_none (option_copied groups.entry))))) }
-    ensures front { WritesFront (K.written out.old) (K.written out.new)
-        (flat_map written_holding (holdings_of key.now (shelf_or_none (option_copied groups.entry)))) }
+    ensures bytes { OnOk result (Appends (K.written out.old) (K.written out.new) (written_holdings key.now (lent_shelf groups.entry))) }
+    ensures front { WritesFront (K.written out.old) (K.written out.new) (written_holdings key.now (lent_shelf groups.entry)) }
     ensures cause { HasCause (K.faults out.old) (K.faults out.new) result }
 {
     match groups {
@@ -44,9 +40,9 @@ fn write_record<K: Sink>(
     out: &mut K,
 ) -> Result<(), Failed>
     ensures bytes { OnOk result (Appends (K.written out.old) (K.written out.new)
-        (with_holdings (shelf_or_none (option_copied groups.entry)) (key.now, kept_record kept.now))) }
+        (with_holdings (lent_shelf groups.entry) (key.now, kept_record kept.now))) }
     ensures front { WritesFront (K.written out.old) (K.written out.new)
-        (with_holdings (shelf_or_none (option_copied groups.entry)) (key.now, kept_record kept.now)) }
+        (with_holdings (lent_shelf groups.entry) (key.now, kept_record kept.now)) }
     ensures cause { HasCause (K.faults out.old) (K.faults out.new) result }
 {
     out.write_all(kept.as_bytes())?;
@@ -61,10 +57,10 @@ fn write_rows<F: Fn(&Key) -> bool, K: Sink>(
     out: &mut K,
 ) -> Result<(), Failed>
     requires { IsCallable F.Fn selection.now }
-    ensures written { ForSelected F.Fn selection.now (λ kept.
-        OnOk result (Appends (K.written out.old) (K.written out.new) (rows_with_holdings kept (shelf_or_none (option_copied groups.entry)) (map shown_row rows.entry.entries)))) }
-    ensures front { ForSelected F.Fn selection.now (λ kept.
-        WritesFront (K.written out.old) (K.written out.new) (rows_with_holdings kept (shelf_or_none (option_copied groups.entry)) (map shown_row rows.entry.entries))) }
+    ensures written { ForSelected F.Fn selection.now
+        (WritesRows (K.written out.old) (K.written out.new) groups.entry (map shown_row rows.entry.entries) result) }
+    ensures front { ForSelected F.Fn selection.now
+        (WritesRowsFront (K.written out.old) (K.written out.new) groups.entry (map shown_row rows.entry.entries)) }
     ensures cause { HasCause (K.faults out.old) (K.faults out.new) result }
 {
     for (key, kept) in rows {
@@ -84,10 +80,10 @@ pub fn write_holdings<F: Fn(&Key) -> bool, K: Sink>(
     out: &mut K,
 ) -> Result<(), Failed>
     requires { IsCallable F.Fn selection.now }
-    ensures written { ForSelected F.Fn selection.now (λ kept.
-        OnOk result (Appends (K.written out.old) (K.written out.new) (holdings_export kept rows.entry groups.now))) }
-    ensures front { ForSelected F.Fn selection.now (λ kept.
-        WritesFront (K.written out.old) (K.written out.new) (holdings_export kept rows.entry groups.now)) }
+    ensures written { ForSelected F.Fn selection.now
+        (WritesHoldings (K.written out.old) (K.written out.new) rows.entry groups.now result) }
+    ensures front { ForSelected F.Fn selection.now
+        (WritesHoldingsFront (K.written out.old) (K.written out.new) rows.entry groups.now) }
     ensures cause { HasCause (K.faults out.old) (K.faults out.new) result }
 {
     let Listing {

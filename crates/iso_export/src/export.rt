@@ -4,9 +4,9 @@ ghost use Rattle.outside.specs.Fault.{HasCause, HasWriteCause};
 ghost use Rattle.outside.specs.Sink.{WritesFront};
 ghost use Rattle.iso2709_record.specs.Written.{record_bytes};
 ghost use Rattle.catalogue_rules.specs.Settle.{state_of};
-ghost use Rattle.catalogue_rules.specs.Output.{export_of, export_of_rows};
 ghost use Rattle.catalogue_rules.specs.State.{fields_of};
 ghost use Rattle.selection.specs.Selections.{ForSelected, IsCallable};
+ghost use Rattle.iso_export.specs.Exports.{WritesExport, WritesExportFront, WritesRows, WritesRowsFront};
 ghost use Rattle.iso_export.specs.Rows.{AreRowsOf};
 ghost use Rattle.numbered_store.specs.Kept.{kept_record, shown_row};
 
@@ -27,10 +27,8 @@ pub fn write_catalogue<F: Fn(&Key) -> bool, K: Sink>(
 ) -> Result<(), WriteFault>
     requires settled { core.now.staged ≡ [] }
     requires callable { IsCallable F.Fn selection.now }
-    ensures written { ForSelected F.Fn selection.now (λ kept.
-        OnOk result (Appends (K.written out.old) (K.written out.new) (export_of kept (state_of core.now.history)))) }
-    ensures front { ForSelected F.Fn selection.now (λ kept.
-        WritesFront (K.written out.old) (K.written out.new) (export_of kept (state_of core.now.history))) }
+    ensures written { ForSelected F.Fn selection.now (WritesExport (K.written out.old) (K.written out.new) (state_of core.now.history) result) }
+    ensures front { ForSelected F.Fn selection.now (WritesExportFront (K.written out.old) (K.written out.new) (state_of core.now.history)) }
     ensures cause { HasWriteCause (K.faults out.old) (K.faults out.new) result }
 {
     write_state(alloc, core.engine(), selection, out)
@@ -45,10 +43,8 @@ pub fn write_state<F: Fn(&Key) -> bool, K: Sink>(
     out: &mut K,
 ) -> Result<(), WriteFault>
     requires { IsCallable F.Fn selection.now }
-    ensures written { ForSelected F.Fn selection.now (λ kept.
-        OnOk result (Appends (K.written out.old) (K.written out.new) (export_of kept engine.now.state))) }
-    ensures front { ForSelected F.Fn selection.now (λ kept.
-        WritesFront (K.written out.old) (K.written out.new) (export_of kept engine.now.state)) }
+    ensures written { ForSelected F.Fn selection.now (WritesExport (K.written out.old) (K.written out.new) engine.now.state result) }
+    ensures front { ForSelected F.Fn selection.now (WritesExportFront (K.written out.old) (K.written out.new) engine.now.state) }
     ensures cause { HasWriteCause (K.faults out.old) (K.faults out.new) result }
 {
     let Ok(rows) = rows_in_order(alloc, engine) else {
@@ -67,10 +63,8 @@ pub fn write_rows<F: Fn(&Key) -> bool, K: Sink>(
 ) -> Result<(), Failed>
     requires rows { AreRowsOf engine.now.state rows }
     requires callable { IsCallable F.Fn selection.now }
-    ensures written { ForSelected F.Fn selection.now (λ kept.
-        OnOk result (Appends (K.written out.old) (K.written out.new) (export_of kept engine.now.state))) }
-    ensures front { ForSelected F.Fn selection.now (λ kept.
-        WritesFront (K.written out.old) (K.written out.new) (export_of kept engine.now.state)) }
+    ensures written { ForSelected F.Fn selection.now (WritesExport (K.written out.old) (K.written out.new) engine.now.state result) }
+    ensures front { ForSelected F.Fn selection.now (WritesExportFront (K.written out.old) (K.written out.new) engine.now.state) }
     ensures cause { HasCause (K.faults out.old) (K.faults out.new) result }
 {
     // the clauses alone speak of the state
@@ -90,10 +84,8 @@ fn write_class<F: Fn(&Key) -> bool, K: Sink>(
     out: &mut K,
 ) -> Result<(), Failed>
     requires { IsCallable F.Fn selection.now }
-    ensures written { ForSelected F.Fn selection.now (λ kept.
-        OnOk result (Appends (K.written out.old) (K.written out.new) (export_of_rows kept (map shown_row rows.entry.entries)))) }
-    ensures front { ForSelected F.Fn selection.now (λ kept.
-        WritesFront (K.written out.old) (K.written out.new) (export_of_rows kept (map shown_row rows.entry.entries))) }
+    ensures written { ForSelected F.Fn selection.now (WritesRows (K.written out.old) (K.written out.new) (map shown_row rows.entry.entries) result) }
+    ensures front { ForSelected F.Fn selection.now (WritesRowsFront (K.written out.old) (K.written out.new) (map shown_row rows.entry.entries)) }
     ensures cause { HasCause (K.faults out.old) (K.faults out.new) result }
 {
     for (key, kept) in rows {

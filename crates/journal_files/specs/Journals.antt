@@ -14,6 +14,7 @@ use Rattle.durable_catalogue.specs.Logs.{HasHistory, IsLogOf}
 use Rattle.durable_catalogue.specs.Images.{HoldsEntries, framed_lengths}
 use Rattle.durable_catalogue.specs.declared.fault.OpenFault.{OpenFault}
 use Rattle.durable_catalogue.specs.declared.fault.OpenFault.TheVariants.{DeviceFault}
+use Rattle.durable_catalogue.specs.Opened.{IsRefusedDisk}
 use Rattle.durable_catalogue.specs.Openings.{IsUnopened}
 use Rattle.durable_catalogue.specs.Refused.{LeavesAlone}
 use Rattle.durable_catalogue.specs.Durables.{Opening, IsLeft, marked}
@@ -27,6 +28,14 @@ journal_limits = greatest_limits
 abbrev pub log_bytes : RoomView → List ℕ → List ℕ
 log_bytes room name = bytes_or_none (room.file name)
 
+-- these entries are the history of the log of that name, where the room tells it
+abbrev pub IsHistoryIn : RoomView → List ℕ → List Entry → Type 0
+IsHistoryIn room name entries = room.tells ≡ true → HasHistory entries (log_bytes room name)
+
+-- these entries are the history of a log, where its disk tells it
+abbrev pub IsHistoryOn : DiskView → List Entry → Type 0
+IsHistoryOn disk entries = (log : List ℕ) → disk.content ≡ Some log → HasHistory entries log
+
 -- the log has a history, and it is within the limits
 abbrev pub HasFittingHistory : List ℕ → Type 0
 HasFittingHistory log = ∥ ((entries : List Entry) × IsLogOf entries log × IsWithin journal_limits entries) ∥₁
@@ -34,7 +43,7 @@ HasFittingHistory log = ∥ ((entries : List Entry) × IsLogOf entries log × Is
 -- A catalogue of these entries was opened over the log of that name in a room. Its opening left the log no longer than it was, or than a
 -- blank one; its time begins with the log's; and it synced, where the log tells its moments.
 pub record IsOpenedFrom (room : RoomView) (name : List ℕ) (entries : List Entry) (mark : Option (List Entry)) (o : Opening) : Type 0 where
-  pub history : room.tells ≡ true → HasHistory entries (log_bytes room name)
+  pub history : IsHistoryIn room name entries
   pub version : room.tells ≡ true → version_of (log_bytes room name) ≡ 2
   pub within : IsWithin journal_limits entries
   pub unmarked : mark ≡ None
@@ -133,6 +142,20 @@ pub record IsRefusedLog (old new : RoomView) (name : List ℕ) (why : OpenFault)
   pub kept : old.tells ≡ true → why ≢ DeviceFault → log_bytes new name ≡ log_bytes old name
   pub so : old.tells ≡ true → IsUnopened journal_limits (log_bytes old name) why
   pub cause : why ≡ DeviceFault → Rose (old.log_faults name) (new.log_faults name)
+
+-- A log that was refused as this disk, and closed, keeps its history wherever it had just been opened and the opening left it as a refusal
+-- does.
+abbrev pub KeepsRefused : {R L : Type 0} → (R → RoomView) → (L → DiskView) → R → R → List ℕ → L → OpenFault → OpenFault → Type 0
+KeepsRefused {R} {L} seen log_seen old new name refused why answer = (before : R) (opened : L) → IsJustOpened (seen before) (seen old) name (log_seen opened)
+    → IsRefusedDisk journal_limits (log_seen opened) (log_seen refused) why → IsRefusedLog (seen before) (seen new) name answer
+
+-- A catalogue was closed as the log of that name, where the room tells and the log told when it was opened, as that disk.
+abbrev pub IsClosedOver : DiskView → RoomView → RoomView → List ℕ → DurableView → Type 0
+IsClosedOver opened old new name d = old.tells ≡ true → is_some opened.content ≡ true → IsClosedAs new name d
+
+-- a mark has its cause in the count of faults, where the log had none when it was opened, as that disk
+abbrev pub HasMarkCause : DiskView → RoomView → RoomView → List ℕ → Option (List Entry) → Type 0
+HasMarkCause opened old new name mark = is_some mark ≡ true → opened.faults ≡ 0 → Rose (old.log_faults name) (new.log_faults name)
 
 -- the file of that name is a closed log, and durable: it has synced, where it tells its moments, and its file is all that a crash may
 -- leave

@@ -39,6 +39,13 @@ impl HistoryEntries {
     {
         self.entries.as_slice()
     }
+
+    /// Gives the entries up; takes no memory.
+    pub fn into_vec(self) -> Vec<EntryPayload>
+        ensures { result.items ≡ self }
+    {
+        self.entries
+    }
 }
 
 impl EntryTaker for HistoryEntries {

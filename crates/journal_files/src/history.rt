@@ -3,8 +3,7 @@ ghost use Rattle.std.specs.Prelude.{◌≡◌, ◌≢◌, true, Some, None, IfOk
 ghost use Rattle.outside.specs.Room.{AsLog, SameBut};
 ghost use Rattle.commit_journal.specs.Versions.{number_of};
 ghost use Rattle.durable_catalogue.specs.declared.fault.OpenFault.TheVariants.{OldVersion};
-ghost use Rattle.durable_catalogue.specs.Logs.{HasHistory};
-ghost use Rattle.journal_files.specs.Journals.{journal_limits, log_bytes, IsClosedDisk, IsOpenLog, IsRefusedLog};
+ghost use Rattle.journal_files.specs.Journals.{journal_limits, IsHistoryIn, IsClosedDisk, IsOpenLog, IsRefusedLog};
 ghost use Rattle.journal_files.specs.Taking.{IsHandedOn};
 
 use crate::journal::JOURNAL_LIMITS;
@@ -28,8 +27,7 @@ pub fn open_history<R: Room, T: EntryTaker>(
     ensures apart { SameBut (R.seen room.old) (R.seen room.new) (name.now ∷ []) }
 
     // All entries of the log's history were handed on; they are within the limits, and the log keeps them.
-    ensures taken { OnOk result (IsHandedOn (T.has taker.old taker.new)
-        (λ entries. (R.seen room.old).tells ≡ true → HasHistory entries (log_bytes (R.seen room.old) name.now)) journal_limits) }
+    ensures taken { OnOk result (IsHandedOn (T.has taker.old taker.new) (IsHistoryIn (R.seen room.old) name.now) journal_limits) }
     ensures log { IfOk result (λ h. IsOpenLog (R.seen room.old) (R.seen room.new) name.now (number_of h.journal.version) (R.Log.seen h.journal.disk)) }
 
     // A log that is refused keeps its history.

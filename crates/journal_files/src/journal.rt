@@ -1,12 +1,11 @@
 //! Journals that are appended to.
-ghost use Rattle.std.specs.Prelude.{◌≡◌, true, Some, None, is_some, IfOk, IfErr, OnOk, ◌∷◌, []};
-ghost use Rattle.outside.specs.Fault.{Rose};
+ghost use Rattle.std.specs.Prelude.{◌≡◌, true, Some, None, IfOk, IfErr, OnOk, ◌∷◌, []};
 ghost use Rattle.outside.specs.Room.{AsLog, SameBut};
 ghost use Rattle.durable_catalogue.specs.declared.fault.OpenFault.TheVariants.{Full};
 ghost use Rattle.commit_journal.specs.Log.{version_of};
 ghost use Rattle.durable_catalogue.specs.Durables.{mark_of};
 ghost use Rattle.durable_catalogue.specs.Views.{durable_view};
-ghost use Rattle.journal_files.specs.Journals.{log_bytes, IsOpenedAs, IsClosedAs, IsRefusedLog};
+ghost use Rattle.journal_files.specs.Journals.{log_bytes, IsOpenedAs, IsClosedOver, HasMarkCause, IsRefusedLog};
 
 use crate::close_refused;
 use durable_catalogue::{Durable, OnClose, OpenFault};
@@ -52,12 +51,10 @@ pub fn close_journal<R: Room>(room: &mut R, name: &str, durable: Durable<R::Log>
     ensures closed { (R.seen room.new).open_as name.now ≡ None }
 
     // The file and the closed log, where the room tells and the log told when it was opened.
-    ensures log { (R.seen room.old).tells ≡ true → is_some (R.Log.seen durable.before.value).content ≡ true →
-        IsClosedAs (R.seen room.new) name.now (durable_view durable) }
+    ensures log { IsClosedOver (R.Log.seen durable.before.value) (R.seen room.old) (R.seen room.new) name.now (durable_view durable) }
 
     // A mark has its cause in the count of faults.
-    ensures cause { is_some (mark_of durable.mark) ≡ true → (R.Log.seen durable.before.value).faults ≡ 0 →
-        Rose ((R.seen room.old).log_faults name.now) ((R.seen room.new).log_faults name.now) }
+    ensures cause { HasMarkCause (R.Log.seen durable.before.value) (R.seen room.old) (R.seen room.new) name.now (mark_of durable.mark) }
 {
     room.close_log(name, durable.close(OnClose::Leak));
 }

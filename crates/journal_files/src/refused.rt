@@ -2,8 +2,7 @@
 ghost use Rattle.std.specs.Prelude.{◌≡◌, true, Some, None, ◌∷◌, []};
 ghost use Rattle.outside.specs.Fault.{count_sum};
 ghost use Rattle.outside.specs.Room.{AsLog, SameBut};
-ghost use Rattle.durable_catalogue.specs.Opened.{IsRefusedDisk};
-ghost use Rattle.journal_files.specs.Journals.{journal_limits, IsClosedDisk, IsJustOpened, IsRefusedLog};
+ghost use Rattle.journal_files.specs.Journals.{IsClosedDisk, KeepsRefused};
 
 use durable_catalogue::OpenFault;
 use outside::Room;
@@ -18,11 +17,7 @@ pub fn close_refused<R: Room>(room: &mut R, name: &str, refused: (R::Log, OpenFa
     ensures log { (R.seen room.old).tells ≡ true → IsClosedDisk (R.Log.seen refused.0) (R.seen room.new) name.now }
     ensures counted { (R.seen room.new).log_faults name.now
         ≡ count_sum ((R.seen room.old).log_faults name.now) (R.Log.seen refused.0).faults }
-
-    // Where it had just been opened, and the opening left it as a refusal does, it keeps its history.
-    ensures keeps { (before : R) (log : R.Log) → IsJustOpened (R.seen before) (R.seen room.old) name.now (R.Log.seen log) →
-        IsRefusedDisk journal_limits (R.Log.seen log) (R.Log.seen refused.0) refused.1 →
-        IsRefusedLog (R.seen before) (R.seen room.new) name.now result }
+    ensures keeps { KeepsRefused R.seen R.Log.seen room.old room.new name.now refused.0 refused.1 result }
 {
     let (log, fault) = refused;
     room.close_log(name, log);

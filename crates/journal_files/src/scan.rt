@@ -3,8 +3,8 @@ ghost use Rattle.std.specs.Prelude.{◌≡◌, ◌≢◌, ℕ, List, [], Some, I
 ghost use Rattle.commit_journal.specs.Log.{version_of};
 ghost use Rattle.commit_journal.specs.Versions.{number_of};
 ghost use Rattle.durable_catalogue.specs.declared.fault.OpenFault.TheVariants.{OldVersion};
-ghost use Rattle.durable_catalogue.specs.Logs.{HasHistory};
 ghost use Rattle.durable_catalogue.specs.Opened.{IsOpenedDisk, IsRefusedDisk};
+ghost use Rattle.journal_files.specs.Journals.{IsHistoryOn};
 ghost use Rattle.journal_files.specs.Taking.{IsHandedOn};
 
 use crate::frames::take_within;
@@ -30,8 +30,7 @@ impl<D: Disk> JournalScan<D> {
         taker: &mut T,
     ) -> Result<Self, (D, OpenFault)>
         requires none { T.has taker.old taker.old [] }
-        ensures taken { OnOk result (IsHandedOn (T.has taker.old taker.new)
-            (λ entries. (log : List ℕ) → (D.seen disk).content ≡ Some log → HasHistory entries log) limits) }
+        ensures taken { OnOk result (IsHandedOn (T.has taker.old taker.new) (IsHistoryOn (D.seen disk)) limits) }
         ensures version { IfOk result (λ h. (log : List ℕ) → (D.seen disk).content ≡ Some log → version_of log ≡ number_of h.journal.version) }
 
         // The log is in order, and what was read of it is durable; or it was refused, and is left alone.

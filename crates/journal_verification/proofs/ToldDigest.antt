@@ -11,7 +11,7 @@ use Rattle.console_lines.specs.declared.fault.Fault.TheVariants.{Input, NotAJour
 use Rattle.console_lines.proofs.Ends.{told_once, told_not_unwritten, never_told, result_untold, result_line, result_front, result_cause}
 use Rattle.journal_verification.specs.Contents.{IsVerified}
 use Rattle.journal_verification.specs.Digests.{HasFront, IsFrontDigest, IsDigestOf, digest_line}
-use Rattle.journal_verification.specs.Owning.{EndsVerifyingDigest, IsToldDigest, IsOfOther, VerifiesDigest}
+use Rattle.journal_verification.specs.Comparing.{EndsVerifyingDigest, IsToldDigest, HasOtherDigest, VerifiesDigest}
 use Rattle.journal_verification.specs.declared.verified.Verified.{Verified}
 use Rattle.journal_verification.proofs.There.{there_more, there_both}
 
@@ -38,15 +38,15 @@ IsFrontOf count front log = IsFrontDigest log count front
 -- a file in whose journal the digits are of no front
 pub of_others : (count : ℕ) (digits : List ℕ) (v : Verified) (front : Option (List ℕ)) (file : Option (List ℕ))
     → ((digest : List ℕ) → front ≡ Some digest → decode_sized digits 32 ≡ Ok digest → ⊥) → IsSomeAnd file (λ log. IsVerified log v)
-    → IsSomeAnd file (λ log. IsFrontDigest log count front) → IsSomeAnd file (IsOfOther count digits)
+    → IsSomeAnd file (λ log. IsFrontDigest log count front) → IsSomeAnd file (HasOtherDigest count digits)
 of_others count digits v front file none verified fronts =
-    there_more {P = λ log. (IsVerified log v) × (IsFrontDigest log count front)} {Q = IsOfOther count digits} file
+    there_more {P = λ log. (IsVerified log v) × (IsFrontDigest log count front)} {Q = HasOtherDigest count digits} file
     (λ log is. record { verified = v; is = is.0; other = other_front log count front digits is.1 none })
     (there_both (λ log. IsVerified log v) (IsFrontOf count front) file verified fronts)
 
 -- it is told that the journal has another history
 pub verifies_other : (journal : List ℕ) (count : ℕ) (digits : List ℕ) (o : Outcome) → o.end ≡ Told OtherHistory → IsTold OtherHistory o
-    → (o.old.tells ≡ true → IsSomeAnd (o.old.file journal) (IsOfOther count digits)) → VerifiesDigest journal count digits o
+    → (o.old.tells ≡ true → IsSomeAnd (o.old.file journal) (HasOtherDigest count digits)) → VerifiesDigest journal count digits o
 verifies_other journal count digits o is told others = record {
   ends = subst EndsVerifyingDigest (sym is) tt;
   told = λ why also. subst (λ f. IsTold f o) (told_once o.end OtherHistory why is also) told;

@@ -17,11 +17,14 @@ use Rattle.journal_verification.specs.Digests.{frames_length, front_of, HasFront
 use Rattle.journal_verification.proofs.Digests.{same_or_other, if_some_more, take_more, none_before, no_entries}
 use Rattle.entry_history.specs.Frames.{IsBadFrame, IsNoJournal, NoGate, NoPayload}
 use Rattle.journal_verification.specs.Walking as walking
+use Rattle.commit_journal.specs.Tails.{tail_behind, tail_of}
+use Rattle.commit_journal.specs.declared.tail.Tail.{Tail}
+use Rattle.commit_journal.specs.declared.tail.Tail.TheVariants.{Nothing}
 use Rattle.journal_verification.specs.Contents.{torn_behind, torn_of, IsVerified}
 use Rattle.journal_verification.proofs.Headers.{header_there, version_there}
 
 pub blank_is : (log window : List ℕ) → log ≡ window → length log < 18
-    → IsVerified log (record { version = 2; entries = 0; frames = 0; bytes = length window; digest = sha256 (take FIRST_GATE window); torn = None })
+    → IsVerified log (record { version = 2; entries = 0; frames = 0; bytes = length window; digest = sha256 (take FIRST_GATE window); torn = None; tail = Nothing })
 blank_is log window same few =
     let short : length log ≤ BLANK_LENGTH = omega (arith, few) in
     let test : nat_le (length log) BLANK_LENGTH ≡ true = grind (arith, nat_tests) in
@@ -36,6 +39,7 @@ blank_is log window same few =
       bytes = ap length (sym same);
       digest = ap (λ l. sha256 (take FIRST_GATE l)) (sym same);
       torn = rw test refl;
+      tail = rw test refl;
     }
 
 ok_once : (r : Result (List Frame) ℕ) (one other : List Frame) → r ≡ Ok one → r ≡ Ok other → one ≡ other
@@ -98,7 +102,7 @@ module _ (log window : List ℕ) (left : Option (List ℕ)) (c : Comes window le
     front_is : (frames : List Frame) → front_of log frames ≡ take FIRST_GATE window ++ take (frames_length frames) (drop 16 log)
     front_is frames = take_more log FIRST_GATE (frames_length frames) ∙ ap (λ l. l ++ take (frames_length frames) (drop 16 log)) header_is
 
-    module _ (wanted place bytes : ℕ) (started : Sha256) (found : Found) (torn : Option ℕ) (r : IsRead version 16 wanted started (drop 16 log) found place)
+    module _ (wanted place bytes : ℕ) (started : Sha256) (found : Found) (torn : Option ℕ) (tail : Tail) (r : IsRead version 16 wanted started (drop 16 log) found place)
         (held : Holds256 started (take FIRST_GATE window)) where
       d : HaveDigests version wanted (take FIRST_GATE window) (drop 16 log) r.frames found
       d = r.digests (take FIRST_GATE window) held
@@ -131,9 +135,17 @@ module _ (log window : List ℕ) (left : Option (List ℕ)) (c : Comes window le
       pub front_read : IsFrontDigest log wanted found.front
       front_read = record { there = if_some_more found.front there d.front.there; only = λ digest h. d.front.only digest (back digest h) }
 
-      pub whole_is : bytes ≡ length log → torn ≡ torn_behind place bytes
-          → IsVerified log (record { version = version; entries = found.entries; frames = found.frames; bytes = bytes; digest = found.digest; torn = torn })
-      whole_is total is =
+      pub whole_is : bytes ≡ length log → torn ≡ torn_behind place bytes → tail ≡ tail_behind place bytes
+          → IsVerified log (record {
+            version = version;
+            entries = found.entries;
+            frames = found.frames;
+            bytes = bytes;
+            digest = found.digest;
+            torn = torn;
+            tail = tail;
+          })
+      whole_is total is tail_is =
           let test : nat_le (length log) BLANK_LENGTH ≡ false = (let l = longer in grind (arith, nat_tests)) in
           let place_is : (walk_of log).place ≡ place = ap (λ w. w.place) r.walked in
           record {
@@ -147,10 +159,14 @@ module _ (log window : List ℕ) (left : Option (List ℕ)) (c : Comes window le
             bytes = total;
             digest = d.whole ∙ ap sha256 (sym (front_is r.frames));
             torn = is ∙ ap (torn_behind place) total ∙ ap (λ p. torn_behind p (length log)) (sym place_is) ∙ sym (long_torn test);
+            tail = tail_is ∙ ap (tail_behind place) total ∙ ap (λ p. tail_behind p (length log)) (sym place_is) ∙ sym (long_tail test);
           }
         where
           long_torn : nat_le (length log) BLANK_LENGTH ≡ false → torn_of log ≡ torn_behind (walk_of log).place (length log)
           long_torn test = rw test refl
+
+          long_tail : nat_le (length log) BLANK_LENGTH ≡ false → tail_of log ≡ tail_behind (walk_of log).place (length log)
+          long_tail test = rw test refl
 
     pub unread_is : (wrong : ℕ) → IsUnread version (walk 16 0 (drop 16 log)) wrong → IsNoJournal log wrong
     unread_is wrong (walking.NoGate lost) = NoGate (frames_lost log wrong longer header (record { at = lost.at; lost = lost.lost }))

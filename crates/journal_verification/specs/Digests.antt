@@ -18,7 +18,8 @@ frames_length frames = sum_by (λ f. HEAD_BYTES + length f.payload) frames
 abbrev pub front_of : List ℕ → List Frame → List ℕ
 front_of log frames = take (FIRST_GATE + frames_length frames) log
 
--- A log's first frames, as many as there may be, have so many entries, and that is the digest of the bytes in front of the gate behind them.
+-- Some first frames of a log, none or all of them too, have so many entries, and that is the digest of the bytes in front of the gate
+-- behind them.
 pub record HasFront (log : List ℕ) (count : ℕ) (digest : List ℕ) : Type 0 where
   pub frames : List Frame
   pub more : List Frame

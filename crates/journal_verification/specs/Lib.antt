@@ -2,6 +2,6 @@ pub mod Coming
 pub mod Contents
 pub mod Digests
 pub mod Gates
-pub mod Owning
+pub mod Comparing
 pub mod Verifying
 pub mod Walking

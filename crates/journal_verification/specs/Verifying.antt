@@ -10,6 +10,8 @@ use Rattle.console_lines.specs.declared.end.End.TheVariants.{Done, Refused, Unwr
 use Rattle.console_lines.specs.declared.end.Unwritten.TheVariants.{Out, Side, Pages, Console}
 use Rattle.console_lines.specs.declared.fault.Fault.{Fault}
 use Rattle.console_lines.specs.declared.fault.Fault.TheVariants.{Usage, Input, Device, NotAJournal, Full, Memory, OldVersion, OtherHistory}
+use Rattle.commit_journal.specs.declared.tail.Tail.{Tail}
+use Rattle.commit_journal.specs.declared.tail.Tail.TheVariants.{Nothing, Torn, More}
 use Rattle.journal_verification.specs.Contents.{IsVerified}
 use Rattle.journal_verification.specs.Digests.{digest_line}
 use Rattle.entry_history.specs.Frames.{IsNoJournal}
@@ -20,6 +22,12 @@ abbrev pub torn_line : Option ℕ → List ℕ
 torn_line None = []
 torn_line (Some place) = codes "torn behind byte " ++ decimal place ++ codes "\n"
 
+-- the line of one behind whose end more stands than a crash leaves
+abbrev pub tail_line : Tail → List ℕ
+tail_line Nothing = []
+tail_line Torn = []
+tail_line More = codes "more stands behind the journal's end than a crash leaves: salvage\n"
+
 -- the line of its version, entries, frames and bytes
 unfoldable pub counts_line : Verified → List ℕ
 counts_line v =
@@ -28,7 +36,7 @@ counts_line v =
 
 -- what is told of a journal
 abbrev pub verified_lines : Verified → List ℕ
-verified_lines v = counts_line v ++ (digest_line v.digest v.entries ++ torn_line v.torn)
+verified_lines v = counts_line v ++ (digest_line v.digest v.entries ++ (torn_line v.torn ++ tail_line v.tail))
 
 -- how it ends
 abbrev pub EndsVerifying : End → Type 0

@@ -19,8 +19,8 @@ pub record IsLostAt (place : ℕ) (walk : Walk) : Type 0 where
   pub at : walk.place ≡ place
   pub lost : walk.is_closed ≡ false
 
--- Frames' first ones, as many as there may be, have so many entries, and that is the digest of a header and of the bytes up to the gate
--- behind them.
+-- Some first ones of frames, none or all of them too, have so many entries, and that is the digest of a header and of the bytes up to the
+-- gate behind them.
 pub record HasFrontAt (version wanted : ℕ) (header bytes : List ℕ) (frames : List Frame) (digest : List ℕ) : Type 0 where
   pub first : List Frame
   pub more : List Frame

@@ -2,16 +2,16 @@
 #![tactic(auto)]
 
 pub use command::verify;
+pub use comparing::verify_digest;
 pub use fault::VerifyFault;
-pub use owning::verify_digest;
-pub use verified::{Looked, Verified, look_source, verify_source};
+pub use verified::{Looked, Verified, look_source};
 
 mod coming;
 mod command;
+mod comparing;
 mod fault;
 mod gate;
 mod looking;
-mod owning;
 mod text;
 mod verified;
 mod walking;

@@ -1,9 +1,10 @@
 ghost use Rattle.std.specs.Prelude.{◌≡◌, ◌++◌, IfOk, string_bytes, codes};
 ghost use Rattle.std.specs.Fmt.{decimal};
-ghost use Rattle.journal_verification.specs.Verifying.{counts_line, torn_line, verified_lines};
+ghost use Rattle.journal_verification.specs.Verifying.{counts_line, torn_line, tail_line, verified_lines};
 ghost use Rattle.journal_verification.specs.Digests.{digest_line};
 
 use crate::verified::Verified;
+use commit_journal::Tail;
 use marc_types::NoMemory;
 use std::alloc::Global;
 
@@ -14,6 +15,19 @@ fn torn_text(alloc: Global, torn: Option<u64>) -> Result<String, NoMemory>
     match torn {
         Some(place) => Ok(format!(in alloc; "torn behind byte {place}\n")?),
         None => Ok(String::new(alloc)),
+    }
+}
+
+/// The line of a journal behind whose end more stands than a crash leaves.
+fn tail_text(alloc: Global, tail: Tail) -> Result<String, NoMemory>
+    ensures { IfOk result (λ text. string_bytes text ≡ tail_line tail) }
+{
+    match tail {
+        Tail::Nothing | Tail::Torn => Ok(String::new(alloc)),
+        Tail::More => Ok(String::from_str(
+            alloc,
+            "more stands behind the journal's end than a crash leaves: salvage\n",
+        )?),
     }
 }
 
@@ -47,5 +61,7 @@ pub fn verified_text(alloc: Global, verified: &Verified) -> Result<String, NoMem
     text.push_str(digest.as_str())?;
     let torn = torn_text(alloc, verified.torn)?;
     text.push_str(torn.as_str())?;
+    let tail = tail_text(alloc, verified.tail)?;
+    text.push_str(tail.as_str())?;
     Ok(text)
 }

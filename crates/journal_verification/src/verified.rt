@@ -3,6 +3,7 @@ ghost use Rattle.sha2.specs.Hashers.{Holds256};
 ghost use Rattle.sha2.specs.Sha256.{sha256};
 ghost use Rattle.commit_journal.specs.declared.format.TheConstants.{FIRST_GATE};
 ghost use Rattle.commit_journal.specs.Log.{header_fault, version_of_header};
+ghost use Rattle.commit_journal.specs.declared.tail.Tail.TheVariants.{Nothing};
 ghost use Rattle.commit_journal.specs.Versions.{number_of};
 ghost use Rattle.journal_verification.specs.Coming.{Comes, HasVerifyCause};
 ghost use Rattle.journal_verification.specs.Contents.{torn_behind, IsVerified};
@@ -12,7 +13,7 @@ ghost use Rattle.entry_history.specs.Frames.{IsNoJournal};
 use crate::coming::Coming;
 use crate::fault::VerifyFault;
 use crate::walking::take_frames;
-use commit_journal::{BLANK_LENGTH, HEADER_BYTES, Version, header_version};
+use commit_journal::{BLANK_LENGTH, HEADER_BYTES, Tail, Version, header_version, tail_behind};
 use marc_types::NoMemory;
 use outside::Source;
 use std::alloc::Global;
@@ -24,10 +25,12 @@ pub struct Verified {
     pub entries: u64,
     pub frames: u64,
     pub bytes: u64,
-    /// The SHA-256 of those in front of the first closed gate.
+    /// The SHA-256 of those in front of the first closed gate; of a blank journal of the first 16.
     pub digest: [u8; 32],
     /// The place of the closed gate behind which bytes stand that are no part of the journal.
     pub torn: Option<u64>,
+    /// What these bytes can be.
+    pub tail: Tail,
 }
 
 /// What a journal has, and the SHA-256 of its bytes in front of the gate behind so many entries, where a frame ends there.
@@ -47,6 +50,7 @@ fn blank<S: Source>(coming: &mut Coming<S>, wanted: u64) -> Result<Looked, NoMem
       bytes = length coming.old.window.items;
       digest = sha256 (take FIRST_GATE coming.old.window.items);
       torn = None;
+      tail = Nothing;
     }) }
     ensures none { IfOk result (λ l. wanted ≡ 0 → l.front ≡ Some (sha256 (take FIRST_GATE coming.old.window.items))) }
     ensures more { IfOk result (λ l. wanted ≢ 0 → l.front ≡ None) }
@@ -63,6 +67,7 @@ fn blank<S: Source>(coming: &mut Coming<S>, wanted: u64) -> Result<Looked, NoMem
             bytes: bytes as u64,
             digest,
             torn: None,
+            tail: Tail::Nothing,
         },
         front: (wanted == 0).then_some(digest),
     })
@@ -128,6 +133,7 @@ fn look_coming<S: Source>(
             bytes,
             digest: found.digest,
             torn: torn_at(place, bytes),
+            tail: tail_behind(place, bytes),
         },
         front: found.front,
     })
@@ -149,17 +155,4 @@ pub fn look_source<S: Source>(
     let mut coming = Coming::new(alloc, source);
     let looked = look_coming(alloc, &mut coming, wanted);
     (looked, coming.close())
-}
-
-/// Reads a journal so, and tells what it has.
-pub fn verify_source<S: Source>(alloc: Global, source: S) -> (Result<Verified, VerifyFault>, S)
-    ensures verified { IfOk result.0 (λ v. (log : List ℕ) → S.left source ≡ Some log → IsVerified log v) }
-    ensures lost { (wrong : ℕ) → IsErrOf result.0 (VerifyFault.NotAJournal wrong) → (log : List ℕ) → S.left source ≡ Some log
-        → IsNoJournal log wrong }
-    ensures cause { HasVerifyCause (S.faults source) (S.faults result.1) result.0 }
-{
-    match look_source(alloc, source, 0) {
-        (Ok(looked), source) => (Ok(looked.verified), source),
-        (Err(fault), source) => (Err(fault), source),
-    }
 }

@@ -5,3 +5,4 @@ pub mod Outside
 pub mod Headings
 pub mod Told
 pub mod Places
+pub mod Shorts

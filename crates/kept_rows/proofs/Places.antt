@@ -102,7 +102,7 @@ pub none_yet : (class : Class) (hs : List KeptField) → IsSoundTo class hs 0 26
 none_yet class hs = record { counted = refl; told = refl; below = omega arith }
 
 -- the field at a place, and those behind it
-split_there : (hs : List KeptField) (i : ℕ) → i < length hs → (h : KeptField) × (slice_get hs i ≡ Some h) × (drop i hs ≡ h ∷ drop (i + 1) hs)
+pub split_there : (hs : List KeptField) (i : ℕ) → i < length hs → (h : KeptField) × (slice_get hs i ≡ Some h) × (drop i hs ≡ h ∷ drop (i + 1) hs)
 split_there hs i within = at (slice_get_cases hs i).1
   where
     at : (((x : KeptField) × (i < length hs) × (slice_get hs i ≡ Some x) × (get_or hs i x ≡ x)) ⊎ ((length hs ≤ i) × (slice_get hs i ≡ None))) →
@@ -135,11 +135,11 @@ one_more class hs i len n within far fits known =
     }
 
 -- a field that isn't told sound, or that becomes too long, decides
-broken : (class : Class) (hs : List KeptField) (i len : ℕ) (h : KeptField) → drop i hs ≡ h ∷ drop (i + 1) hs → is_lasting class h ≡ false →
-    IsSoundTo class hs i len → false ≡ has_sound_fields class hs
+pub broken : (class : Class) (hs : List KeptField) (i : ℕ) (h : KeptField) → drop i hs ≡ h ∷ drop (i + 1) hs → is_lasting class h ≡ false →
+    list_all (is_lasting class) (drop i hs) ≡ list_all (is_lasting class) hs → false ≡ has_sound_fields class hs
 unfolding has_sound_fields
-broken class hs i len h at fails known =
-    let all : list_all (is_lasting class) hs ≡ false = sym known.told ∙ ap (list_all (is_lasting class)) at ∙ ap (λ b. b && list_all (is_lasting class) (drop (i + 1) hs)) fails in
+broken class hs i h at fails told =
+    let all : list_all (is_lasting class) hs ≡ false = sym told ∙ ap (list_all (is_lasting class)) at ∙ ap (λ b. b && list_all (is_lasting class) (drop (i + 1) hs)) fails in
     sym (and_left (list_all (is_lasting class) hs) (nat_le (26 + 12 * length hs + sum_by (reach class) hs) 99999) all)
 
 pub not_told : (class : Class) (hs : List KeptField) (i len : ℕ) → i < length hs → None ≡ option_and_then (sound_reach class) (slice_get hs i) →
@@ -149,7 +149,7 @@ not_told class hs i len within far known =
     let at = split_there hs i within in
     let h = at.0 in
     let fails = told_not (is_sound_field class h) (reach class h) (sym (far ∙ ap (option_and_then (sound_reach class)) at.1)) in
-    broken class hs i len h at.2 (and_left (is_sound_field class h) (nat_le (reach class h) 9999) fails) known
+    broken class hs i h at.2 (and_left (is_sound_field class h) (nat_le (reach class h) 9999) fails) known.told
 
 above : (n : ℕ) → 9999 < n → nat_le n 9999 ≡ false
 above n h = grind (arith, nat_tests)
@@ -162,9 +162,9 @@ too_long class hs i len n within far long known =
     let h = at.0 in
     let is = told_far (is_sound_field class h) (reach class h) n (sym (far ∙ ap (option_and_then (sound_reach class)) at.1)) in
     let fails = above (reach class h) (let own = is.1 in omega arith) in
-    broken class hs i len h at.2 (and_right (is_sound_field class h) (nat_le (reach class h) 9999) fails) known
+    broken class hs i h at.2 (and_right (is_sound_field class h) (nat_le (reach class h) 9999) fails) known.told
 
-true_left : (a b : Bool) → a ≡ true → (a && b) ≡ b
+pub true_left : (a b : Bool) → a ≡ true → (a && b) ≡ b
 true_left true b e = refl
 true_left false b e = cc
 

@@ -4,10 +4,12 @@ use Rattle.std.specs.List.{sum_by, list_all}
 use Rattle.marc_types.specs.Valid.{is_code, is_number}
 use Rattle.marc_types.specs.Fields.{tag_of}
 use Rattle.marc_types.specs.declared.entry.Tie.{Tie}
+use Rattle.marc_types.specs.declared.field.Field.{Field}
 use Rattle.marc_types.specs.declared.field.Tag.{Tag}
 use Rattle.marc_types.specs.declared.key.Class.{Class}
 use Rattle.marc_types.specs.declared.key.Class.TheVariants.{Authority, Bibliographic}
 use Rattle.heading_fields.specs.Tables.{is_subdividable}
+use Rattle.iso2709_record.specs.Written.{record_length}
 use Rattle.entry_record.specs.Authority.{is_heading_field}
 use Rattle.entry_record.specs.Identity.{class_of, is_deletion}
 use Rattle.catalogue_rules.specs.State.{KeptField, Row}
@@ -39,6 +41,11 @@ is_lasting class h = is_sound_field class h && nat_le (reach class h) 9999
 unfoldable pub has_sound_fields : Class → List KeptField → Bool
 has_sound_fields class fields =
     list_all (is_lasting class) fields && nat_le (26 + 12 * length fields + sum_by (reach class) fields) 99999
+
+-- Neither the record nor a field of it can become too long: a field grows by no more than 596, the longest heading and a `$0` of the
+-- longest code and number.
+unfoldable pub is_short : List Field → Bool
+is_short fields = nat_le (record_length fields) 9403 && nat_le (length fields) 151
 
 -- the class and the key are those of a living record
 unfoldable pub is_sound_row : Class → Row → Bool

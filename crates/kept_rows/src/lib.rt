@@ -9,4 +9,5 @@ pub mod laws;
 mod order;
 mod reach;
 mod row;
+mod short;
 mod sound;

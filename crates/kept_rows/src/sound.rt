@@ -14,6 +14,7 @@ ghost use Rattle.kept_rows.specs.Tests.{may_be_heading, suits_field, sound_reach
 
 use crate::reach::heading_reach;
 use crate::row::KeptRow;
+use crate::short::{has_short_fields, is_short};
 use entry_record::{base_form, class_of, is_deletion};
 use heading_fields::{heading_kind, takes_subdivisions};
 use iso2709_record::field_len;
@@ -125,7 +126,7 @@ fn unread_reach(row: &KeptRow, place: u32, tag: &Tag) -> Option<u64>
 }
 
 /// The same of the field at a place, which is read.
-fn read_reach(alloc: Global, row: &KeptRow, place: u32) -> Result<Option<u64>, NoMemory>
+pub(crate) fn read_reach(alloc: Global, row: &KeptRow, place: u32) -> Result<Option<u64>, NoMemory>
     requires within { place < length row.now.rec.fields }
     ensures { IfOk result (λ told. told ≡ option_and_then (sound_reach row.now.class) (slice_get (row_of row.now).1.fields place)) }
 {
@@ -147,7 +148,7 @@ fn reach_at(alloc: Global, row: &KeptRow, place: u32) -> Result<Option<u64>, NoM
     }
 }
 
-fn has_sound_fields(alloc: Global, row: &KeptRow) -> Result<bool, NoMemory>
+fn has_measured_fields(alloc: Global, row: &KeptRow) -> Result<bool, NoMemory>
     ensures { IfOk result (λ told. told ≡ has_sound_fields row.now.class (row_of row.now).1.fields) }
 {
     let mut len = FRAME_LEN;
@@ -161,6 +162,16 @@ fn has_sound_fields(alloc: Global, row: &KeptRow) -> Result<bool, NoMemory>
         len += DIRECTORY_ENTRY_LEN + reach;
     }
     Ok(len <= MOST_RECORD_LEN)
+}
+
+fn has_sound_fields(alloc: Global, row: &KeptRow) -> Result<bool, NoMemory>
+    ensures { IfOk result (λ told. told ≡ has_sound_fields row.now.class (row_of row.now).1.fields) }
+{
+    if is_short(&row.rec) {
+        has_short_fields(alloc, row)
+    } else {
+        has_measured_fields(alloc, row)
+    }
 }
 
 fn suits_class(leader: &Leader, class: Class) -> bool

@@ -1,5 +1,5 @@
 -- What follows a history takes its entries in their order.
-use Rattle.std.proofs.Common.{◌≡◌, ◌∙◌, ℕ, ◌+◌, ◌-◌, ◌^◌, ◌<◌, ◌≤◌, Bool, true, false, not, List, [], ◌∷◌, ◌++◌, length, take, drop, Option, Some, None, refl, sym, ap, subst, arith, append_assoc, append-nil, length-append}
+use Rattle.std.proofs.Common.{◌≡◌, ◌∙◌, ℕ, suc, ◌+◌, ◌-◌, ◌^◌, ◌<◌, ◌≤◌, Bool, true, false, not, List, [], ◌∷◌, ◌++◌, length, take, drop, Option, Some, None, refl, sym, ap, subst, arith, append_assoc, append-nil, length-append}
 use Rattle.std.specs.Prelude.{Result, Ok, Err, IfOk, OnOk}
 use Rattle.std.proofs.lemmas.Grind.{flat_map-append}
 use Rattle.std.proofs.lemmas.List.{take-append-drop, drop_at}
@@ -24,24 +24,24 @@ use Rattle.loader_workers.specs.Files.{first_passes, extra_pass}
 use Rattle.loader_workers.specs.Following.{Answers, TakesTold, CanFollow, HasLooked, HasFollowed}
 
 -- what is told behind a front of a history goes on with it
-part_begins : (history old part : List Entry) → IsPrefix old history → part ≡ take 256 (drop (length old) history) → IsPrefix (old ++ part) history
+part_begins : (history old part : List Entry) → IsPrefix old history → part ≡ take 1024 (drop (length old) history) → IsPrefix (old ++ part) history
 part_begins history old part begins told =
     let rest : drop (length old) history ≡ begins.0 = ap (drop (length old)) (sym begins.1) ∙ drop_at old begins.0 (length old) refl in
-    let is : part ≡ take 256 begins.0 = told ∙ ap (take 256) rest in (
-      drop 256 begins.0,
-      append_assoc old part (drop 256 begins.0)
-          ∙ (ap (λ l. old ++ (l ++ drop 256 begins.0)) is ∙ (ap (λ l. old ++ l) (take-append-drop 256 begins.0) ∙ begins.1)),
+    let is : part ≡ take 1024 begins.0 = told ∙ ap (take 1024) rest in (
+      drop 1024 begins.0,
+      append_assoc old part (drop 1024 begins.0)
+          ∙ (ap (λ l. old ++ (l ++ drop 1024 begins.0)) is ∙ (ap (λ l. old ++ l) (take-append-drop 1024 begins.0) ∙ begins.1)),
     )
 
-none_taken : (rest : List Entry) → take 256 rest ≡ [] → rest ≡ []
-none_taken [] none = refl
-none_taken (e ∷ rest) none = absurd (cc none)
+none_taken : (more : ℕ) (rest : List Entry) → take (suc more) rest ≡ [] → rest ≡ []
+none_taken more [] none = refl
+none_taken more (e ∷ rest) none = absurd (cc none)
 
 -- where nothing is told, all was taken
-part_ends : (history old part : List Entry) → IsPrefix old history → part ≡ take 256 (drop (length old) history) → part ≡ [] → old ≡ history
+part_ends : (history old part : List Entry) → IsPrefix old history → part ≡ take 1024 (drop (length old) history) → part ≡ [] → old ≡ history
 part_ends history old part begins told none =
     let rest : drop (length old) history ≡ begins.0 = ap (drop (length old)) (sym begins.1) ∙ drop_at old begins.0 (length old) refl in
-    let left : begins.0 ≡ [] = none_taken begins.0 (sym (ap (take 256) rest) ∙ (sym told ∙ none)) in
+    let left : begins.0 ≡ [] = none_taken 1023 begins.0 (sym (ap (take 1024) rest) ∙ (sym told ∙ none)) in
     sym (append-nil old) ∙ (ap (λ l. old ++ l) (sym left) ∙ begins.1)
 
 not_before : (start : Option ℕ) (from : ℕ) → IsFrom start from → ((history : List Entry) (most : ℕ) → IsToldSince start history from most NotKept → ⊥)
@@ -50,7 +50,7 @@ not_before (Some start) from kept history most told = absurd (omega (arith, kept
 
 -- what was told was taken, or there was no memory for it
 pub takes_since : (start : Option ℕ) (history old now part : List Entry) (more : Result Bool NoMemory) → IsPrefix old history
-    → IsToldSince start history (length old) 256 (Since part) → now ≡ old ++ part → IfOk more (λ more. more ≡ false → part ≡ []) → TakesTold history now more
+    → IsToldSince start history (length old) 1024 (Since part) → now ≡ old ++ part → IfOk more (λ more. more ≡ false → part ≡ []) → TakesTold history now more
 takes_since start history old now part more begins told taken some = record {
   begins = subst (λ l. IsPrefix l history) (sym taken) (part_begins history old part begins told.1);
   none_left = if_none more some;
@@ -63,10 +63,10 @@ takes_since start history old now part more begins told taken some = record {
 
 -- the same, of an answer as it is read
 pub takes_told : (start : Option ℕ) (history old now part : List Entry) (told : Result Told NoMemory) (t : Told) (empty : Bool) → IsPrefix old history → told ≡ Ok t → t ≡ Since part
-    → IfOk told (IsToldSince start history (length old) 256) → now ≡ old ++ part → (empty ≡ true → part ≡ []) → TakesTold history now (Ok (not empty))
+    → IfOk told (IsToldSince start history (length old) 1024) → now ≡ old ++ part → (empty ≡ true → part ≡ []) → TakesTold history now (Ok (not empty))
 takes_told start history old now part told t empty begins is since answered taken none =
     let is_since : told ≡ Ok (Since part) = cc (is, since) in
-    takes_since start history old now part (Ok (not empty)) begins (subst (λ (r : Result Told NoMemory). IfOk r (IsToldSince start history (length old) 256)) is_since answered) taken
+    takes_since start history old now part (Ok (not empty)) begins (subst (λ (r : Result Told NoMemory). IfOk r (IsToldSince start history (length old) 1024)) is_since answered) taken
     (λ some. none (empty_of empty some))
   where
     empty_of : (b : Bool) → not b ≡ false → b ≡ true
@@ -75,10 +75,10 @@ takes_told start history old now part told t empty begins is since answered take
 
 -- what a catalogue tells of its history
 pub since_told : (start : Option ℕ) (entries old : List Entry) (mark : Option (List Entry)) (count : ℕ) (told : Result Told NoMemory) → count ≡ length old
-    → IsAnswered start (events entries mark) (ask.Since count 256) told → IfOk told (IsToldSince start entries (length old) 256)
+    → IsAnswered start (events entries mark) (ask.Since count 1024) told → IfOk told (IsToldSince start entries (length old) 1024)
 since_told start entries old mark count told counts answered =
-    subst (λ es. IfOk told (IsToldSince start es (length old) 256)) (entries_in entries mark)
-    (subst (λ n. IfOk told (IsToldSince start (entries_of (events entries mark)) n 256)) counts answered)
+    subst (λ es. IfOk told (IsToldSince start es (length old) 1024)) (entries_in entries mark)
+    (subst (λ n. IfOk told (IsToldSince start (entries_of (events entries mark)) n 1024)) counts answered)
 
 -- nothing was taken for want of memory
 pub takes_none : (history old now : List Entry) (why : NoMemory) → IsPrefix old history → now ≡ old → TakesTold history now (Err why)
@@ -108,13 +108,13 @@ module _ {O T : Type 0} (taken : T → List Entry) (takes : T → Type 0) (answe
   -- one look, and what was taken of it
   pub followed_once : (most count : ℕ) (lock : Lock O) (old new : Pass O Event) (taker now : T) (told : Result Told NoMemory) (more : Result Bool NoMemory)
       → CanFollow taken takes answers most lock old taker → IsPrefix old.seen new.seen → new ≡ having_looked old new.seen
-      → count ≡ length (taken taker) → answers (items new.seen) (ask.Since count 256) told
+      → count ≡ length (taken taker) → answers (items new.seen) (ask.Since count 1024) told
       → ((start : Option ℕ) (history : List Entry) → IsFrom start (length (taken taker)) → IsPrefix (taken taker) history
-      → IfOk told (IsToldSince start history (length (taken taker)) 256) → TakesTold history (taken now) more)
+      → IfOk told (IsToldSince start history (length (taken taker)) 1024) → TakesTold history (taken now) more)
       → length (taken taker) ≤ length (taken now) → OnOk more (takes now) → HasFollowed taken takes old new taker now more
   followed_once most count lock old new taker now told more can begins looked counts asked took longer able =
       let news = can.news in
-      let answered = subst (λ n. answers (items new.seen) (ask.Since n 256) told) counts asked in
+      let answered = subst (λ n. answers (items new.seen) (ask.Since n 1024) told) counts asked in
       record {
         pass = record {
           same = record { lock = ap (λ (p : Pass O Event). p.lock) looked; opened = ap (λ (p : Pass O Event). p.opened) looked; number = ap (λ (p : Pass O Event). p.number) looked };
@@ -122,7 +122,7 @@ module _ {O T : Type 0} (taken : T → List Entry) (takes : T → Type 0) (answe
         };
         behind = (took news.start (entries_of (items new.seen)) news.early
             (prefix_trans (taken taker) (entries_of (items old.seen)) (entries_of (items new.seen)) can.behind (entries_begin old.seen new.seen begins))
-            (news.answered (items new.seen) (ask.Since (length (taken taker)) 256) told answered)).begins;
+            (news.answered (items new.seen) (ask.Since (length (taken taker)) 1024) told answered)).begins;
         longer = longer;
         able = able;
       }

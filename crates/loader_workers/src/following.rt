@@ -16,7 +16,10 @@ use outside::Disk;
 use std::sync::Wait;
 
 /// So many entries are asked for at once.
-const MOST: u32 = 256;
+const MOST: u32 = 1024;
+
+/// So many milliseconds are rested at most between two questions, since each takes a turn in which no loader commits.
+const REST: u64 = 4;
 
 /// So often at most they are asked for while others load.
 const LOOKS: u32 = 1 << 30;
@@ -86,7 +89,7 @@ pub fn follow_while<
         let before = follower.taker.count();
         follow_once(rt, lock, follower)?;
         if follower.taker.count() - before < u64::from(MOST) {
-            meanwhile.rest(rt);
+            meanwhile.rest_for(rt, REST);
         }
     }
     Ok(())

@@ -3,7 +3,7 @@ use std::sync::Wait;
 use std::sync::atomic::{AtomicU64, Ordering};
 use std::time::Duration;
 
-/// So many milliseconds are rested at most.
+/// So many milliseconds are rested at most by who is beside.
 const REST: u64 = 1;
 
 /// The time in which files are loaded, as those see it who do something meanwhile.
@@ -34,6 +34,12 @@ impl Meanwhile {
 
     /// Rests a millisecond, or until the loaders have ended.
     pub fn rest<H: Wait>(&self, rt: &H) {
-        self.over.park_timeout(rt, 0, Duration::from_millis(REST));
+        self.rest_for(rt, REST);
+    }
+
+    /// Rests so many milliseconds, or until the loaders have ended.
+    pub(crate) fn rest_for<H: Wait>(&self, rt: &H, milliseconds: u64) {
+        self.over
+            .park_timeout(rt, 0, Duration::from_millis(milliseconds));
     }
 }

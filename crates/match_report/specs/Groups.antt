@@ -64,9 +64,17 @@ abbrev pub number_word : Number → List ℕ
 number_word (Isbn text) = codes "ISBN"
 number_word (Lccn text) = codes "LCCN"
 
--- a line for a group: the number, and the keys
+-- the number and the keys of a group, each behind a blank
+abbrev pub group_words : NumberGroup → List ℕ
+group_words g = then_words (number_text g.number ∷ map key_text g.keys)
+
+-- what the line of a group says: what kind of number it is, the number, and the keys
+abbrev pub group_text : NumberGroup → List ℕ
+group_text g = number_word g.number ++ group_words g
+
+-- a line for a group
 abbrev pub group_line : NumberGroup → List ℕ
-group_line g = line (number_word g.number ++ then_words (number_text g.number ∷ map key_text g.keys))
+group_line g = line (group_text g)
 
 -- `TOTAL groups=N`
 abbrev pub total_line : List NumberGroup → List ℕ

@@ -1,13 +1,12 @@
 //! The lines of groups.
-ghost use Rattle.std.specs.Prelude.{◌≡◌, ◌++◌, ◌∷◌, map, is_some, OnOk};
+ghost use Rattle.std.specs.Prelude.{◌≡◌, ◌++◌, map, is_some, OnOk};
 ghost use Rattle.std.specs.List.{flat_map};
 ghost use Rattle.std.specs.Io.KnownBytes.{Appends};
 ghost use Rattle.outside.specs.Fault.{HasCause};
 ghost use Rattle.outside.specs.Sink.{WritesFront};
 ghost use Rattle.heading_fields.specs.Numbers.{key_text};
 ghost use Rattle.catalogue_rules.specs.Lines.{then_word, then_words};
-ghost use Rattle.match_report.specs.Postings.{number_text};
-ghost use Rattle.match_report.specs.Groups.{number_word, group_line, total_line, lines_of};
+ghost use Rattle.match_report.specs.Groups.{group_words, group_text, group_line, total_line, lines_of};
 
 use crate::groups::Group;
 use itoa::Buffer;
@@ -64,9 +63,8 @@ fn write_text<K: Sink>(text: &[u8], out: &mut K) -> Result<(), Failed>
 /// The number and the keys of a group, each behind a blank.
 #[tactic(auto, using(crate::proofs::Writes::word_front, crate::proofs::Writes::word_then, outside::proofs::Fronts::appends_then))]
 fn write_words<K: Sink>(group: &Group<'_>, out: &mut K) -> Result<(), Failed>
-    ensures bytes { OnOk result (Appends (K.written out.old) (K.written out.new)
-        (then_word (number_text group.now.number) ++ then_words (map key_text group.now.keys))) }
-    ensures front { WritesFront (K.written out.old) (K.written out.new) (then_word (number_text group.now.number) ++ then_words (map key_text group.now.keys)) }
+    ensures bytes { OnOk result (Appends (K.written out.old) (K.written out.new) (group_words group.now)) }
+    ensures front { WritesFront (K.written out.old) (K.written out.new) (group_words group.now) }
     ensures tells { is_some (K.written out.new) ≡ is_some (K.written out.old) }
     ensures cause { HasCause (K.faults out.old) (K.faults out.new) result }
 {
@@ -76,10 +74,8 @@ fn write_words<K: Sink>(group: &Group<'_>, out: &mut K) -> Result<(), Failed>
 
 #[tactic(auto, using(outside::proofs::Fronts::front_more, outside::proofs::Fronts::front_then, outside::proofs::Fronts::appends_then))]
 fn write_front<K: Sink>(group: &Group<'_>, out: &mut K) -> Result<(), Failed>
-    ensures bytes { OnOk result (Appends (K.written out.old) (K.written out.new)
-        (number_word group.now.number ++ then_words (number_text group.now.number ∷ map key_text group.now.keys))) }
-    ensures front { WritesFront (K.written out.old) (K.written out.new)
-        (number_word group.now.number ++ then_words (number_text group.now.number ∷ map key_text group.now.keys)) }
+    ensures bytes { OnOk result (Appends (K.written out.old) (K.written out.new) (group_text group.now)) }
+    ensures front { WritesFront (K.written out.old) (K.written out.new) (group_text group.now) }
     ensures tells { is_some (K.written out.new) ≡ is_some (K.written out.old) }
     ensures cause { HasCause (K.faults out.old) (K.faults out.new) result }
 {

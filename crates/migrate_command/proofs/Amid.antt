@@ -1,33 +1,13 @@
 -- Images with a front of a history.
-use Rattle.std.proofs.Common.{◌≡◌, ◌⊎◌, inl, inr, ℕ, ◌+◌, ◌<◌, ◌≤◌, max, List, [], ◌∷◌, ◌++◌, length, take, drop, get_or, slice_get, Some, sym, ap, subst, ◌∙◌, arith, take-append-drop}
+use Rattle.std.proofs.Common.{◌≡◌, ◌⊎◌, inl, inr, ℕ, ◌+◌, ◌≤◌, max, List, ◌++◌, length, take, drop, sym, ap, subst, ◌∙◌, arith, take-append-drop}
 use Rattle.std.proofs.lemmas.Grind.{common_steps}
-use Rattle.std.proofs.lemmas.List.{take_more, drop_more}
-use Rattle.std.proofs.lemmas.Option.{get_or_from_slice_get, slice_get_within}
 use Rattle.marc_types.specs.declared.entry.Entry.{Entry}
 use Rattle.commit_journal.specs.declared.format.TheConstants.{BLANK_LENGTH}
 use Rattle.commit_journal.specs.Log.{version_of}
 use Rattle.durable_catalogue.specs.Logs.{IsLogOf}
-use Rattle.durable_catalogue.specs.Images.{framed_length, framed_lengths}
+use Rattle.durable_catalogue.specs.Images.{framed_lengths}
 use Rattle.durable_catalogue.proofs.Framed.{framed_append}
 use Rattle.migrate_command.specs.Migrations.{IsAmid, Before, Behind}
-
-module _ (history : List Entry) (at : ℕ) (e : Entry) (there : slice_get history at ≡ Some e) where
-  pub entry_within : at < length history
-  entry_within = slice_get_within history at e there
-
-  entry_is : get_or history at e ≡ e
-  entry_is = get_or_from_slice_get history at e e there
-
-  -- the entries up to this one
-  pub one_more : take (at + 1) history ≡ take at history ++ e ∷ []
-  one_more = take_more history at e entry_within ∙ ap (λ x. take at history ++ x ∷ []) entry_is
-
-  framed_more : framed_lengths (take (at + 1) history) ≡ framed_lengths (take at history) + framed_length e
-  framed_more = let both = framed_append (take at history) (e ∷ []) in omega (arith, ap framed_lengths one_more, both)
-
-  -- and those behind it
-  pub split_at : history ≡ take at history ++ e ∷ drop (at + 1) history
-  split_at = sym (take-append-drop at history) ∙ ap (λ xs. take at history ++ xs) (drop_more history at e entry_within ∙ ap (λ x. x ∷ drop (at + 1) history) entry_is)
 
 -- a front of a front
 front_front : (xs : List Entry) (n m : ℕ) → n ≤ m → m ≤ length xs → take n (take m xs) ≡ take n xs
@@ -47,22 +27,21 @@ amid history count n log c least most newest has no_longer =
     let behind = framed_append more rest in
     Behind tt more rest whole (subst (λ es. IsLogOf es c) (sym split) has) newest (omega (arith, no_longer, ap framed_lengths whole, all, front, behind))
 
--- so many, or one more
-module _ (history : List Entry) (count at : ℕ) (e : Entry) (log c : List ℕ) (least : count ≤ at) (there : slice_get history at ≡ Some e)
-    (newest : version_of c ≡ 2)
-    (no_longer : length c + framed_lengths (take count history) ≤ max BLANK_LENGTH (length log) + framed_lengths (take at history) + framed_length e) where
+-- so many, or more
+module _ (history : List Entry) (count at next : ℕ) (more : List Entry) (log c : List ℕ) (least : count ≤ at) (on : at ≤ next) (most : next ≤ length history)
+    (there : take next history ≡ take at history ++ more) (newest : version_of c ≡ 2)
+    (no_longer : length c + framed_lengths (take count history) ≤ max BLANK_LENGTH (length log) + framed_lengths (take at history) + framed_lengths more) where
   within_all : length c + framed_lengths (take count history) ≤ max BLANK_LENGTH (length log) + framed_lengths history
   within_all =
-      let front = framed_append (take (at + 1) history) (drop (at + 1) history) in
-      omega (arith, no_longer, framed_more history at e there, front, ap framed_lengths (take-append-drop (at + 1) history))
+      let front = framed_append (take next history) (drop next history) in
+      let both = framed_append (take at history) more in
+      omega (arith, no_longer, front, both, ap framed_lengths there, ap framed_lengths (take-append-drop next history))
 
-  pub amid_either : IsLogOf (take at history) c ⊎ IsLogOf (take at history ++ e ∷ []) c → IsAmid (Unit {0}) history (take count history) log c
-  amid_either (inl has) =
-      let within = entry_within history at e there in amid history count at log c least (omega (arith, within)) newest has within_all
+  pub amid_either : IsLogOf (take at history) c ⊎ IsLogOf (take at history ++ more) c → IsAmid (Unit {0}) history (take count history) log c
+  amid_either (inl has) = amid history count at log c least (omega (arith, on, most)) newest has within_all
   amid_either (inr has) =
-      let within = entry_within history at e there in
-      let has_more : IsLogOf (take (at + 1) history) c = subst (λ es. IsLogOf es c) (sym (one_more history at e there)) has in
-      amid history count (at + 1) log c (omega (arith, least)) (omega (arith, within)) newest has_more within_all
+      let has_more : IsLogOf (take next history) c = subst (λ es. IsLogOf es c) (sym there) has in
+      amid history count next log c (omega (arith, least, on)) most newest has_more within_all
 
 -- What is so where one thing may be is so where another may that comes with it, and with which it comes. It is so behind a log that is
 -- no shorter.

@@ -48,7 +48,14 @@ follow_history version (OneMore before entries all payload payloads (Older one h
 pub log_follows : (entries : List Entry) (log : List ℕ) → IsLogOf entries log → EachFollows [] entries
 log_follows entries log is = follow_history (version_of log) is.holds (λ one. refl) tt
 
--- an entry among others
-pub follows_at : (before xs : List Entry) (e : Entry) (ys : List Entry) → EachFollows before (xs ++ e ∷ ys) → CanFollow (before ++ xs) e.run
-follows_at before [] e ys h = subst (λ es. CanFollow es e.run) (sym (append-nil before)) h.0
-follows_at before (x ∷ xs) e ys h = subst (λ es. CanFollow es e.run) (append_assoc before (x ∷ []) xs) (follows_at (before ++ x ∷ []) xs e ys h.1)
+-- entries among others
+follow_front : (before xs ys : List Entry) → EachFollows before (xs ++ ys) → EachFollows before xs
+follow_front before [] ys h = tt
+follow_front before (x ∷ xs) ys h = (h.0, follow_front (before ++ x ∷ []) xs ys h.1)
+
+follow_rest : (before xs ys : List Entry) → EachFollows before (xs ++ ys) → EachFollows (before ++ xs) ys
+follow_rest before [] ys h = subst (λ es. EachFollows es ys) (sym (append-nil before)) h
+follow_rest before (x ∷ xs) ys h = subst (λ es. EachFollows es ys) (append_assoc before (x ∷ []) xs) (follow_rest (before ++ x ∷ []) xs ys h.1)
+
+pub follows_within : (before xs ys zs : List Entry) → EachFollows before ((xs ++ ys) ++ zs) → EachFollows (before ++ xs) ys
+follows_within before xs ys zs h = follow_rest before xs ys (follow_front before (xs ++ ys) zs h)

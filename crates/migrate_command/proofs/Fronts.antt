@@ -1,8 +1,8 @@
 -- The entries with which a history begins, one after the other.
-use Rattle.std.proofs.Common.{◌≡◌, ℕ, ◌+◌, ◌-◌, ◌<◌, ◌≤◌, List, [], ◌∷◌, ◌++◌, length, take, drop, get_or, slice_get, Some, None, refl, sym, ap, subst, ◌∙◌, arith, length-append, take-append-drop}
+use Rattle.std.proofs.Common.{◌≡◌, ℕ, ◌+◌, ◌<◌, ◌≤◌, List, [], ◌∷◌, ◌++◌, length, take, drop, get_or, slice_get, Some, None, refl, sym, ap, subst, ◌∙◌, arith, length-append, take-append-drop}
 use Rattle.std.specs.Prelude.{◌≢◌}
 use Rattle.std.proofs.Math.Seq.{take-append_seam}
-use Rattle.std.proofs.lemmas.List.{take_more, take_all, get_or_append_left, get_or-drop, length-drop}
+use Rattle.std.proofs.lemmas.List.{take_more, take_all, get_or_append_left}
 use Rattle.std.proofs.lemmas.Option.{get_or_from_slice_get, slice_get_within, slice_get-get_or, none-some}
 use Rattle.marc_types.specs.declared.entry.Entry.{Entry}
 use Rattle.marc_types.specs.declared.entry.Limits.{Limits}
@@ -71,25 +71,6 @@ front_most history items begins = omega (arith, ap length begins.1, length-appen
 -- the entry there
 pub there_is : (history : List Entry) (at : ℕ) (e item : Entry) → at < length history → e ≡ get_or history at e → e ≡ item → slice_get history at ≡ Some item
 there_is history at e item within is same = slice_get-get_or history at e within ∙ ap Some (sym is ∙ same)
-
--- what a history has behind so many
-abbrev behind : ℕ → List Entry → List Entry
-behind count history = take (length history - count) (drop count history)
-
-all_behind : (history : List Entry) (count : ℕ) → behind count history ≡ drop count history
-all_behind history count = let long = length-drop count history in take_all (length history - count) (drop count history) (omega (arith, long))
-
-pub there_behind : (history : List Entry) (count at : ℕ) (e : Entry) → at < length (behind count history) → e ≡ get_or (behind count history) at e
-    → slice_get history (count + at) ≡ Some e
-there_behind history count at e within is =
-    let all = all_behind history count in
-    let long = length-drop count history in
-    there_is history (count + at) e e (omega (arith, within, long, ap length all))
-    (is ∙ ap (λ xs. get_or xs at e) all ∙ get_or-drop count history at e) refl
-
-pub ends_behind : (history : List Entry) (count at : ℕ) → length (behind count history) ≤ at → length history ≤ count + at
-ends_behind history count at past =
-    let all = all_behind history count in let long = length-drop count history in omega (arith, past, long, ap length all)
 
 -- frames hold one front
 pub front_is : (version : ℕ) (frames : List Frame) (limits : Limits) (history : List Entry) (count : ℕ) (entries : List Entry)

@@ -5,4 +5,5 @@ pub mod Fronts
 pub mod Gaining
 pub mod Opened
 pub mod Over
+pub mod Payloads
 pub mod Rooms

@@ -31,7 +31,7 @@ use Rattle.durable_catalogue.specs.Faults.{open_fault}
 use Rattle.durable_catalogue.specs.declared.fault.OpenFault.TheVariants as opening
 use Rattle.migrate_command.specs.Faults.{migrate_fault}
 use Rattle.migrate_command.specs.Migrations.{IsFit, LeavesRefused, IsUnmigrated, IsBrought, IsMigration, IsAmid, Before}
-use Rattle.migrate_command.specs.Fronts.{HoldsFront, HoldNoFront, FindsFront, MayGain, Extends, Brings, BringsRest, HasBrought}
+use Rattle.migrate_command.specs.Fronts.{HoldsFront, HoldNoFront, HoldsBut, FindsRest, MayGain, Extends, Brings, BringsRest, HasBrought}
 use Rattle.migrate_command.proofs.Amid.{amid_where}
 use Rattle.migrate_command.proofs.Fronts.{front_is, may_gain}
 use Rattle.migrate_command.proofs.Gaining.{brings_where}
@@ -63,11 +63,12 @@ opened_alone limits history old new opens leaves =
     }
 
 -- a log that was found with a front of the history is one into which that is brought
-pub fit : (limits : Limits) (history : List Entry) (count place version : ℕ) (old mid : DiskView) → FindsFront limits history count place version old mid
+pub fit : (limits : Limits) (history : List Entry) (payloads : List (List ℕ)) (place version : ℕ) (old mid : DiskView) → FindsRest limits history payloads place version old mid
     → (log : List ℕ) → old.content ≡ Some log → (entries : List Entry) × IsFit limits history entries log
-fit limits history count place version old mid finds log told =
+fit limits history payloads place version old mid finds log told =
     let found = finds.found in
-    let front = finds.front in (
+    let count = finds.holds.count in
+    let front = finds.holds.front in (
       front.entries,
       record {
         version = found.named log told ∙ finds.newest;
@@ -253,13 +254,14 @@ settled_unopened old new fault cause other =
 
 -- a log that was found, whose frames and version were handed on
 module _ (named version : Version) (handed frames : List Frame) (limits : Limits) (history : List Entry) (name : named ≡ version) (hands : handed ≡ frames) where
-  pub finds_of : (count place : ℕ) (old mid : DiskView) → IsFound frames place (number_of version) old mid → named ≡ Two
-      → HoldsFront (number_of named) handed limits history count → FindsFront limits history count place (number_of version) old mid
-  finds_of count place old mid found newest front = record {
+  pub finds_of : (payloads : List (List ℕ)) (place : ℕ) (old mid : DiskView) → IsFound frames place (number_of version) old mid → named ≡ Two
+      → HoldsBut (number_of named) handed limits history payloads → FindsRest limits history payloads place (number_of version) old mid
+  finds_of payloads place old mid found newest holds = record {
     frames = frames;
     found = found;
     newest = ap number_of (sym name ∙ newest);
-    front = subst (λ v. HoldsFront (number_of v) frames limits history count) name (subst (λ fs. HoldsFront (number_of named) fs limits history count) hands front);
+    holds = subst (λ v. HoldsBut (number_of v) frames limits history payloads) name
+        (subst (λ fs. HoldsBut (number_of named) fs limits history payloads) hands holds);
   }
 
   pub no_front_of : (fault : MigrateFault) → HoldNoFront (number_of named) handed limits history fault → HoldNoFront (number_of version) frames limits history fault

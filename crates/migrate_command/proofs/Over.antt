@@ -122,7 +122,7 @@ module _ (from into : List ℕ) (differ : into ≢ from) (old opened brought clo
     keeps = keeps_opened (IsDeviceFaultOf old closed from result);
     brings = brings_opened;
     alone = λ entries tells also none.
-        let f = b.fit (first.tells ∙ tells) in
+        let f = b.taken.fit (first.tells ∙ tells) in
         absurd (unfit_any entries (log_bytes old into) tells also none f.0 (subst (λ l. IsFit journal_limits history f.0 l) first_bytes f.1));
     kept = λ why err. absurd (ok_not_err result count why is err);
     settled = λ why err. absurd (ok_not_err result count why is err);
@@ -131,7 +131,7 @@ module _ (from into : List ℕ) (differ : into ≢ from) (old opened brought clo
     history = λ n ok. fits;
     version = λ n ok tells. named tells ∙ b.oldest;
     fit = λ n entries ok tells also.
-        let f = b.fit (first.tells ∙ tells) in
+        let f = b.taken.fit (first.tells ∙ tells) in
         of_any entries (λ es. (front : List Entry) × IsFit journal_limits es front (log_bytes old into)) tells also
         (f.0, subst (λ l. IsFit journal_limits history f.0 l) first_bytes f.1);
     all = λ n entries ok tells also. (counted n entries ok tells also, all_brought entries tells also);
@@ -153,13 +153,13 @@ module _ (from into : List ℕ) (differ : into ≢ from) (old opened brought clo
 
       all_brought : (entries : List Entry) → old.tells ≡ true → HasHistory entries (log_bytes old from) → IsBrought entries (log_bytes closed into)
       all_brought entries tells also =
-          let now = b.all (log_bytes old from) (first.tells ∙ tells) (has tells) in
+          let now = b.taken.all (log_bytes old from) (first.tells ∙ tells) (has tells) in
           brought_any entries (log_bytes closed into) tells also
           (subst (λ bytes. IsBrought history bytes) (sym (bytes_last history old opened brought closed from into differ first last)) now)
 
       images_brought : old.tells ≡ true → HasInEachImage history closed into
       images_brought tells =
-          images_across history old opened brought closed from into differ first last (b.durable (log_bytes old from) (first.tells ∙ tells) (has tells))
+          images_across history old opened brought closed from into differ first last (b.taken.durable (log_bytes old from) (first.tells ∙ tells) (has tells))
 
   still : (why : Fault) (result : Result ℕ Fault) → result ≡ Err why → (why ≢ Device → opened.tells ≡ true → log_bytes brought into ≡ log_bytes opened into)
       → (w : Fault) → result ≡ Err w → w ≢ Device → old.tells ≡ true → log_bytes closed into ≡ log_bytes old into
@@ -200,22 +200,22 @@ module _ (from into : List ℕ) (differ : into ≢ from) (old opened brought clo
 
       apart : SameBut old closed (from ∷ [])
       apart = same_but_then old opened closed (from ∷ []) first (same_but_then opened brought closed (from ∷ []) (same_but_none opened brought (from ∷ []) stays) last)
-  over_unbrought why result is unchanged settled (Refused reason oldest told so alone rose) = record {
+  over_unbrought why result is unchanged settled (Refused oldest t) = record {
     keeps = keeps_opened (IsDeviceFaultOf old closed from result);
     brings = brings_opened;
     alone = λ entries tells also none.
         keeps_where (why ≡ Device) (IsDeviceFaultOf old closed into result) old closed into (λ device. (is ∙ ap Err device, risen device))
         (keeps_across history old opened brought closed from into differ first last (why ≡ Device)
-        (alone (log_bytes old from) (first.tells ∙ tells) (has tells)
+        (t.alone (log_bytes old from) (first.tells ∙ tells) (has tells)
         (subst (IsUnfit journal_limits history) (sym first_bytes) (unfit_any entries (log_bytes old into) tells also none))));
     kept = still why result is unchanged;
     settled = settled_still why result is settled;
     refused = λ w err. inr (record {
-      reason = reason;
-      is = err_once result w why err is ∙ told;
+      reason = t.reason;
+      is = err_once result w why err is ∙ t.is;
       oldest = λ tells. named tells ∙ oldest;
       history = fits;
-      so = λ tells. (history, has tells, subst (λ l. IsUnmigrated journal_limits history l reason) first_bytes (so (first.tells ∙ tells)));
+      so = λ tells. (history, has tells, subst (λ l. IsUnmigrated journal_limits history l t.reason) first_bytes (t.so (first.tells ∙ tells)));
     });
     device = λ err. inr (risen (err_once result why Device is err));
     history = λ count ok. absurd (ok_not_err result count why ok is);
@@ -227,7 +227,7 @@ module _ (from into : List ℕ) (differ : into ≢ from) (old opened brought clo
     where
       risen : why ≡ Device → Rose (old.log_faults into) (closed.log_faults into)
       risen device =
-          let rises = rose device in
+          let rises = t.rose device in
           let before = first.log_counts into in
           let behind = last.log_counts into in
           omega (arith, rises, before, behind)

@@ -13,22 +13,30 @@ use Rattle.migrate_command.specs.Migrations.{IsFit, IsUnfit, IsUnmigrated, IsBro
 use Rattle.migrate_command.specs.Told.{fault_of_migrating}
 use Rattle.migrate_command.specs.Migrates.{BringsInto, IsSettledLog, HasInEachImage, WhyNotFrom, WhyNotInto}
 
--- the history of a log of version 1 was brought into the log of that name
-pub record IsBroughtInto (history : List Entry) (version : ℕ) (old new : RoomView) (into : List ℕ) : Type 0 where
-  pub oldest : version ≡ 1
+-- a history was brought into the log of that name
+pub record IsTakenInto (history : List Entry) (old new : RoomView) (into : List ℕ) : Type 0 where
   pub fit : old.tells ≡ true → (entries : List Entry) × IsFit journal_limits history entries (log_bytes old into)
   pub all : (was : List ℕ) → old.tells ≡ true → HasHistory history was → IsBrought history (log_bytes new into)
   pub durable : (was : List ℕ) → old.tells ≡ true → HasHistory history was → HasInEachImage history new into
 
--- it wasn't: the log is of the newest version, and nothing was opened; or the new log doesn't take it, and keeps what it has where
--- it is not fit for that
+-- it wasn't: the log doesn't take it, and keeps what it has where it is not fit for that
+pub record IsNotTaken (history : List Entry) (old new : RoomView) (into : List ℕ) (fault : Fault) : Type 0 where
+  pub reason : MigrateFault
+  pub is : fault ≡ fault_of_migrating reason
+  pub so : old.tells ≡ true → IsUnmigrated journal_limits history (log_bytes old into) reason
+  pub alone : (was : List ℕ) → old.tells ≡ true → HasHistory history was → IsUnfit journal_limits history (log_bytes old into)
+      → KeepsHistory (fault ≡ Device) old new into
+  pub rose : fault ≡ Device → Rose (old.log_faults into) (new.log_faults into)
+
+-- the history of a log of version 1 was brought into the log of that name
+pub record IsBroughtInto (history : List Entry) (version : ℕ) (old new : RoomView) (into : List ℕ) : Type 0 where
+  pub oldest : version ≡ 1
+  pub taken : IsTakenInto history old new into
+
+-- it wasn't: the first log is of the newest version, and nothing was opened; or the new log doesn't take it
 pub data IsUnbrought (history : List Entry) (version : ℕ) (old new : RoomView) (into : List ℕ) (fault : Fault) : Type 0 where
   Newest : fault ≡ OldVersion → (version ≡ 1 → ⊥) → SameBut old new [] → IsUnbrought history version old new into fault
-  Refused : (reason : MigrateFault) → version ≡ 1 → fault ≡ fault_of_migrating reason
-      → (old.tells ≡ true → IsUnmigrated journal_limits history (log_bytes old into) reason)
-      → ((was : List ℕ) → old.tells ≡ true → HasHistory history was → IsUnfit journal_limits history (log_bytes old into)
-      → KeepsHistory (fault ≡ Device) old new into)
-      → (fault ≡ Device → Rose (old.log_faults into) (new.log_faults into)) → IsUnbrought history version old new into fault
+  Refused : version ≡ 1 → IsNotTaken history old new into fault → IsUnbrought history version old new into fault
 
 -- a device's fault was told, and the count of faults of that name's logs rose
 abbrev pub IsDeviceFaultOf : RoomView → RoomView → List ℕ → Result ℕ Fault → Type 0

@@ -1,5 +1,5 @@
 -- What a journal has of a history already, and how it gains the rest.
-use Rattle.std.specs.Prelude.{◌≡◌, ◌≢◌, ◌⊎◌, ℕ, ◌+◌, ◌≤◌, List, [], ◌∷◌, ◌++◌, length, take, Some}
+use Rattle.std.specs.Prelude.{◌≡◌, ◌≢◌, ◌⊎◌, ℕ, ◌+◌, ◌≤◌, List, [], ◌∷◌, ◌++◌, length, take, drop, Some}
 use Rattle.marc_types.specs.declared.entry.Entry.{Entry}
 use Rattle.marc_types.specs.declared.entry.Limits.{Limits}
 use Rattle.outside.specs.Disk.{DiskView, LeavesOnly}
@@ -7,9 +7,10 @@ use Rattle.commit_journal.specs.declared.frame.Frame.{Frame}
 use Rattle.commit_journal.specs.Log.{version_of, payloads_of}
 use Rattle.commit_journal.specs.Journal.{IsFound}
 use Rattle.entry_record.specs.History.{IsWithin}
+use Rattle.entry_history.specs.Alone.{IsPayload}
 use Rattle.entry_history.specs.Payloads.{CanFollow, IsHistory}
 use Rattle.durable_catalogue.specs.Logs.{IsLogOf, HasHistory}
-use Rattle.durable_catalogue.specs.Images.{framed_length, framed_lengths}
+use Rattle.durable_catalogue.specs.Images.{framed_lengths}
 use Rattle.entry_history.specs.Frames.{IsBadFrame}
 use Rattle.migrate_command.specs.Migrations.{Begins, AreWithin, IsAmid}
 use Rattle.migrate_command.specs.declared.fault.MigrateFault.{MigrateFault}
@@ -28,12 +29,30 @@ pub record HoldsFront (version : ℕ) (frames : List Frame) (limits : Limits) (h
   pub front : entries ≡ take count history
   pub most : count ≤ length history
 
--- A log of the newest version was found, and its frames hold the first entries of a history, so many.
-pub record FindsFront (limits : Limits) (history : List Entry) (count place version : ℕ) (old new : DiskView) : Type 0 where
+-- these are the payloads of these entries, each of which can stand in one alone
+abbrev pub ArePayloads : List Entry → List (List ℕ) → Type 0
+ArePayloads [] [] = Unit {0}
+ArePayloads [] (payload ∷ payloads) = ⊥
+ArePayloads (e ∷ entries) [] = ⊥
+ArePayloads (e ∷ entries) (payload ∷ payloads) = IsPayload e payload × ArePayloads entries payloads
+
+-- these are the payloads of what a history has behind its first entries, so many
+pub record AreRest (history : List Entry) (count : ℕ) (payloads : List (List ℕ)) : Type 0 where
+  pub most : count ≤ length history
+  pub are : ArePayloads (drop count history) payloads
+
+-- the frames of a journal hold the first entries of a history, and these are the payloads of the rest
+pub record HoldsBut (version : ℕ) (frames : List Frame) (limits : Limits) (history : List Entry) (payloads : List (List ℕ)) : Type 0 where
+  pub count : ℕ
+  pub front : HoldsFront version frames limits history count
+  pub rest : AreRest history count payloads
+
+-- A log of the newest version was found, its frames hold the first entries of a history, and these are the payloads of the rest.
+pub record FindsRest (limits : Limits) (history : List Entry) (payloads : List (List ℕ)) (place version : ℕ) (old new : DiskView) : Type 0 where
   pub frames : List Frame
   pub found : IsFound frames place version old new
   pub newest : version ≡ 2
-  pub front : HoldsFront version frames limits history count
+  pub holds : HoldsBut version frames limits history payloads
 
 -- why the frames of a journal hold no front of a history, or one that may not be longer
 abbrev pub HoldNoFront : ℕ → List Frame → Limits → List Entry → MigrateFault → Type 0
@@ -76,18 +95,22 @@ abbrev pub HasBrought : List Entry → List Entry → List Entry → DiskView �
 HasBrought history entries these old new = (log now : List ℕ) → old.content ≡ Some log → HasHistory entries log → EachFollows [] history
     → new.content ≡ Some now → HasGained entries these log now
 
--- an image has these entries, or these and one more, is of the newest version, and no longer than the log with a frame for that one
-pub record HasOneMoreOrNot (before : List Entry) (e : Entry) (log image : List ℕ) : Type 0 where
-  pub has : ∥ IsLogOf before image ⊎ IsLogOf (before ++ e ∷ []) image ∥₁
+-- the same of a history with its first entries, so many
+abbrev pub HasBroughtRest : List Entry → ℕ → DiskView → DiskView → Type 0
+HasBroughtRest history count old new = HasBrought history (take count history) history old new
+
+-- an image has these entries, or these and more, is of the newest version, and no longer than the log with a frame for each of those
+pub record HasMoreOrNot (before more : List Entry) (log image : List ℕ) : Type 0 where
+  pub has : ∥ IsLogOf before image ⊎ IsLogOf (before ++ more) image ∥₁
   pub newest : version_of image ≡ 2
-  pub no_longer : length image ≤ length log + framed_length e
+  pub no_longer : length image ≤ length log + framed_lengths more
 
--- an entry is tried behind those of a log: a crash leaves these, or these and the entry
-abbrev pub TriesEntry : Entry → DiskView → DiskView → Type 0
-TriesEntry e old new = (log : List ℕ) (before : List Entry) → old.content ≡ Some log → HasHistory before log → CanFollow before e.run
-    → LeavesOnly old new (HasOneMoreOrNot before e log)
+-- entries are tried behind those of a log: a crash leaves these, or these and all of them
+abbrev pub TriesEntries : List Entry → DiskView → DiskView → Type 0
+TriesEntries more old new = (log : List ℕ) (before : List Entry) → old.content ≡ Some log → HasHistory before log → EachFollows before more
+    → LeavesOnly old new (HasMoreOrNot before more log)
 
--- it is there
-abbrev pub AddsEntry : Entry → DiskView → DiskView → Type 0
-AddsEntry e old new = (log now : List ℕ) (before : List Entry) → old.content ≡ Some log → HasHistory before log → CanFollow before e.run
-    → new.content ≡ Some now → HasGained before (before ++ e ∷ []) log now
+-- they are there
+abbrev pub AddsEntries : List Entry → DiskView → DiskView → Type 0
+AddsEntries more old new = (log now : List ℕ) (before : List Entry) → old.content ≡ Some log → HasHistory before log → EachFollows before more
+    → new.content ≡ Some now → HasGained before (before ++ more) log now

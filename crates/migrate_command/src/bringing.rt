@@ -5,7 +5,7 @@ ghost use Rattle.entry_record.specs.History.{IsWithin};
 ghost use Rattle.durable_catalogue.specs.Logs.{HasHistory};
 ghost use Rattle.console_lines.specs.declared.fault.Fault.TheVariants.{Device};
 ghost use Rattle.journal_files.specs.Journals.{journal_limits, log_bytes};
-ghost use Rattle.migrate_command.specs.Bringing.{IsBroughtInto, IsUnbrought, IsBroughtOver};
+ghost use Rattle.migrate_command.specs.Bringing.{IsTakenInto, IsNotTaken, IsBroughtInto, IsUnbrought, IsBroughtOver};
 ghost use Rattle.migrate_command.specs.Migrates.{BringsInto, IsSettledLog};
 
 use crate::migration::migrate;
@@ -18,24 +18,21 @@ use journal_files::{
 use outside::Room;
 use std::alloc::Global;
 
-/// Brings the history of a log of that version into the file of that name, and answers how many entries it has. A log of the newest
-/// version is refused before that is opened.
-fn bring_into<R: Room>(
+/// Brings a history into the file of that name, in version 2, whatever version it stood in. Its entries are given up.
+pub fn bring_history<R: Room>(
     alloc: Global,
     room: &mut R,
-    version: u8,
-    history: &[EntryPayload],
+    history: Vec<EntryPayload>,
     into: &str,
-) -> Result<u64, Fault>
+) -> Result<(), Fault>
     requires free { (R.seen room.old).open_as into.now ≡ None }
-    requires within { IsWithin journal_limits history.now }
+    requires within { IsWithin journal_limits history.items }
     ensures apart { SameBut (R.seen room.old) (R.seen room.new) (into.now ∷ []) }
     ensures closed { (R.seen room.new).open_as into.now ≡ None }
-    ensures brings { (was : List ℕ) → (R.seen room.old).tells ≡ true → HasHistory history.now was →
-        BringsInto history.now (R.seen room.old) (R.seen room.new) into.now }
-    ensures counted { IfOk result (λ count. count ≡ length history.now) }
-    ensures brought { OnOk result (IsBroughtInto history.now version (R.seen room.old) (R.seen room.new) into.now) }
-    ensures fault { IfErr result (IsUnbrought history.now version (R.seen room.old) (R.seen room.new) into.now) }
+    ensures brings { (was : List ℕ) → (R.seen room.old).tells ≡ true → HasHistory history.items was →
+        BringsInto history.items (R.seen room.old) (R.seen room.new) into.now }
+    ensures taken { OnOk result (IsTakenInto history.items (R.seen room.old) (R.seen room.new) into.now) }
+    ensures fault { IfErr result (IsNotTaken history.items (R.seen room.old) (R.seen room.new) into.now) }
 
     // Unless a device failed, a file that doesn't take it is as it was, byte for byte, and a crash leaves the same of it.
     ensures kept { IfErr result (λ fault. fault ≢ Device → (R.seen room.old).tells ≡ true →
@@ -43,16 +40,13 @@ fn bring_into<R: Room>(
     ensures settled { IfErr result (λ fault. fault ≢ Device → (R.seen room.old).tells ≡ true →
         IsSettledLog (R.seen room.old) (R.seen room.new) into.now) }
 {
-    if version != 1 {
-        return Err(Fault::OldVersion);
-    }
     let Ok(log) = room.open_log(into) else {
         return Err(Fault::Device);
     };
     match migrate(alloc, history, log, JOURNAL_LIMITS) {
         Ok(log) => {
             room.close_log(into, log);
-            Ok(history.len() as u64)
+            Ok(())
         }
         Err(failed) => {
             let (log, fault) = failed;
@@ -62,27 +56,37 @@ fn bring_into<R: Room>(
     }
 }
 
-/// Brings a history into the file of that name, in version 2, whatever version it stood in; and answers how many entries it has.
-pub fn bring_history<R: Room>(
+/// Brings the history of a log of that version into the file of that name, and answers how many entries it has. A log of the newest
+/// version is refused before that is opened.
+fn bring_old<R: Room>(
     alloc: Global,
     room: &mut R,
-    history: &[EntryPayload],
+    version: u8,
+    history: Vec<EntryPayload>,
     into: &str,
 ) -> Result<u64, Fault>
     requires free { (R.seen room.old).open_as into.now ≡ None }
-    requires within { IsWithin journal_limits history.now }
+    requires within { IsWithin journal_limits history.items }
     ensures apart { SameBut (R.seen room.old) (R.seen room.new) (into.now ∷ []) }
     ensures closed { (R.seen room.new).open_as into.now ≡ None }
-    ensures brings { (was : List ℕ) → (R.seen room.old).tells ≡ true → HasHistory history.now was →
-        BringsInto history.now (R.seen room.old) (R.seen room.new) into.now }
-    ensures brought { OnOk result (IsBroughtInto history.now 1 (R.seen room.old) (R.seen room.new) into.now) }
-    ensures fault { IfErr result (IsUnbrought history.now 1 (R.seen room.old) (R.seen room.new) into.now) }
+    ensures brings { (was : List ℕ) → (R.seen room.old).tells ≡ true → HasHistory history.items was →
+        BringsInto history.items (R.seen room.old) (R.seen room.new) into.now }
+    ensures counted { IfOk result (λ count. count ≡ length history.items) }
+    ensures brought { OnOk result (IsBroughtInto history.items version (R.seen room.old) (R.seen room.new) into.now) }
+    ensures fault { IfErr result (IsUnbrought history.items version (R.seen room.old) (R.seen room.new) into.now) }
     ensures kept { IfErr result (λ fault. fault ≢ Device → (R.seen room.old).tells ≡ true →
         log_bytes (R.seen room.new) into.now ≡ log_bytes (R.seen room.old) into.now) }
     ensures settled { IfErr result (λ fault. fault ≢ Device → (R.seen room.old).tells ≡ true →
         IsSettledLog (R.seen room.old) (R.seen room.new) into.now) }
 {
-    bring_into(alloc, room, 1, history, into)
+    if version != 1 {
+        return Err(Fault::OldVersion);
+    }
+    let count = history.len() as u64;
+    match bring_history(alloc, room, history, into) {
+        Ok(()) => Ok(count),
+        Err(fault) => Err(fault),
+    }
 }
 
 /// Brings the history of the file `from` into the file `into`, and answers how many entries it has.
@@ -103,7 +107,8 @@ pub fn bring_over<R: Room>(
         Ok(log) => log,
         Err(fault) => return Err(fault_of_opening(fault)),
     };
-    let brought = bring_into(alloc, room, log.version().number(), taken.as_slice(), into);
+    let version = log.version().number();
+    let brought = bring_old(alloc, room, version, taken.into_vec(), into);
     close_history(room, from, log);
     brought
 }

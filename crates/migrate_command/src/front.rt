@@ -1,11 +1,12 @@
 //! What a journal has of a history already.
-ghost use Rattle.std.specs.Prelude.{◌≡◌, ◌≢◌, ◌≤◌, ◌↔◌, List, [], length, IsTrue, IfOk, IfErr, OnOk};
+ghost use Rattle.std.specs.Prelude.{◌≡◌, ◌≢◌, ◌≤◌, ◌↔◌, All, List, [], length, drop, IsTrue, IfOk, IfErr, OnOk};
 ghost use Rattle.marc_types.specs.declared.entry.Entry.{Entry as AnyEntry};
 ghost use Rattle.commit_journal.specs.Versions.{number_of};
 ghost use Rattle.entry_record.specs.History.{IsWithin};
 ghost use Rattle.entry_history.specs.Payloads.{IsHistory};
 ghost use Rattle.commit_journal.specs.Log.{payloads_of};
-ghost use Rattle.migrate_command.specs.Fronts.{HoldsFront, HoldNoFront};
+ghost use Rattle.migrate_command.specs.Fronts.{ArePayloads, HoldsBut, HoldsFront, HoldNoFront};
+ghost use Rattle.commit_journal.specs.Journal.{IsPayload};
 ghost use Rattle.migrate_command.specs.Migrations.{Begins};
 ghost use Rattle.migrate_command.specs.declared.fault.MigrateFault.TheVariants.{DeviceFault};
 
@@ -16,6 +17,7 @@ use durable_catalogue::{EntryTaker, take_frames};
 use entry_history::EntryPayload;
 use entry_record::Prepared;
 use marc_types::{Limits, NoMemory};
+use outside::Bytes;
 use std::alloc::Global;
 
 /// The entries of a history, kept.
@@ -73,7 +75,7 @@ fn begins(alloc: Global, history: &[EntryPayload], items: &[Prepared]) -> Result
 }
 
 /// How many entries of a history the frames of a journal hold, which hold nothing else.
-pub fn front_of(
+fn front_of(
     alloc: Global,
     version: Version,
     frames: Vec<Frame>,
@@ -101,4 +103,62 @@ pub fn front_of(
         return Err(MigrateFault::NotPrefix);
     }
     Ok(items.len())
+}
+
+/// What a history has behind its first entries.
+fn behind(history: Vec<EntryPayload>, count: usize) -> Vec<EntryPayload>
+    requires { count ≤ length history.items }
+    ensures { result.items ≡ drop count history.items }
+{
+    let mut rest = history;
+    let left = rest.len() - count;
+    rest.rotate_left(count);
+    rest.truncate(left);
+    rest
+}
+
+/// Gives up the payloads of entries.
+fn payloads_of_all(alloc: Global, entries: Vec<EntryPayload>) -> Result<Vec<Bytes>, NoMemory>
+    ensures { IfOk result (λ payloads. ArePayloads entries.items payloads.items) }
+{
+    let mut payloads = Vec::new(alloc);
+    for entry in entries {
+        payloads.push(entry.into_payload())?;
+    }
+    Ok(payloads)
+}
+
+/// Gives up the payloads of what a history has behind its first entries.
+fn payloads_behind(
+    alloc: Global,
+    history: Vec<EntryPayload>,
+    count: usize,
+) -> Result<Vec<Bytes>, NoMemory>
+    requires { count ≤ length history.items }
+    ensures { IfOk result (λ payloads. ArePayloads (drop count history.items) payloads.items) }
+{
+    payloads_of_all(alloc, behind(history, count))
+}
+
+/// The payloads of what a history has behind those entries that the frames of a journal hold, which hold nothing else. They are the
+/// history's own, and are given up.
+pub fn rest_of(
+    alloc: Global,
+    version: Version,
+    frames: Vec<Frame>,
+    history: Vec<EntryPayload>,
+    limits: &Limits,
+) -> Result<Vec<Bytes>, MigrateFault>
+    requires { IsWithin limits.now history.items }
+    ensures rest { IfOk result (λ payloads. HoldsBut (number_of version) frames.items limits.now history.items payloads.items) }
+    ensures fit { IfOk result (λ payloads. All IsPayload payloads.items) }
+    ensures version { OnOk result (version ≡ Version.Two) }
+    ensures fault { IfErr result (HoldNoFront (number_of version) frames.items limits.now history.items) }
+    ensures no_device { IfErr result (λ fault. fault ≢ DeviceFault) }
+{
+    let count = front_of(alloc, version, frames, history.as_slice(), limits)?;
+    match payloads_behind(alloc, history, count) {
+        Ok(payloads) => Ok(payloads),
+        Err(NoMemory) => Err(MigrateFault::NoMemory),
+    }
 }

@@ -21,6 +21,8 @@ pub enum Cause {
     /// There is no such file, and its name has the form of a library's word.
     LibraryWord,
     NoMemory,
+    /// A cut would take off more than a crash leaves behind a journal's end.
+    MoreBehind,
     Other,
 }
 
@@ -54,6 +56,9 @@ impl Cause {
                 " looks like CODE=FILE, and there is no such file: is a word missing? ./NAME makes it"
             }
             Cause::NoMemory => ": out of memory",
+            Cause::MoreBehind => {
+                ": more stands behind the journal's end than a crash leaves: verify, salvage"
+            }
             Cause::Other => ": the system failed",
         }
     }

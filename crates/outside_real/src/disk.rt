@@ -22,6 +22,8 @@ pub struct FileDisk<R> {
     has_failed_sync: bool,
     // who tells how far its reading has come
     watch: Option<Watch<R>>,
+    // the most bytes that one cut takes off
+    most_cut: u64,
     ghost short: { len ≤ longest_disk },
 }
 
@@ -38,6 +40,7 @@ impl<R: Eprint + Clock> FileDisk<R> {
                 cause: None,
                 has_failed_sync: false,
                 watch: None,
+                most_cut: u64::MAX,
             }),
             Ok(_) => Err(Cause::TooLong),
             Err(error) => Err(Cause::of(&error)),
@@ -81,6 +84,14 @@ impl<R: Drop> FileDisk<R> {
         ensures faults { self.new.faults ≡ self.old.faults }
     {
         self.watch = watch;
+    }
+
+    /// From now on a cut that would take off more bytes fails: no crash leaves so many behind a journal's end.
+    pub fn limit_cut(&mut self, most: u64)
+        ensures len { self.new.len ≡ self.old.len }
+        ensures faults { self.new.faults ≡ self.old.faults }
+    {
+        self.most_cut = most;
     }
 }
 
@@ -176,6 +187,9 @@ impl<R: Eprint + Clock> Disk for FileDisk<R> {
         ensures failed { OnErr result (self.new.len ≡ self.old.len) }
         ensures counts { self.new.faults ≡ counted result self.old.faults }
     {
+        if self.len - len > self.most_cut {
+            return Err(self.fail(Cause::MoreBehind));
+        }
         if let Err(error) = self.file.set_len(len) {
             return Err(self.fail(Cause::of(&error)));
         }

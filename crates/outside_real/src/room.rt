@@ -70,6 +70,10 @@ pub struct Intent {
     pub uncounted: Option<String>,
     /// Whether standard error is a terminal.
     pub is_terminal: bool,
+    /// The most bytes that a crash leaves behind a journal's end, so that no more are cut off there.
+    pub most_behind: u64,
+    /// The log of which that isn't so.
+    pub points: Option<String>,
 }
 
 impl Intent {
@@ -84,6 +88,8 @@ impl Intent {
             counts: Counts::Nothing,
             uncounted: None,
             is_terminal: false,
+            most_behind: u64::MAX,
+            points: None,
         }
     }
 }
@@ -148,6 +154,9 @@ impl<R: Files<File = File> + Print + Eprint + Clock + Alloc + Clone + Drop> File
         let mut disk = FileDisk::new(file)?;
         let watch = self.watch_of(name, Sort::Journal, Some(disk.len()));
         disk.watch(watch);
+        if !is_named(&self.intent.points, name) {
+            disk.limit_cut(self.intent.most_behind);
+        }
 
         // A new file is empty, and so is one that an opening made which then failed to sync the folder.
         if disk.len() == 0 {

@@ -155,12 +155,14 @@ Reads the journal from its first byte to its last, as an input.
 Writes: no file; on the console a line with its version and how many entries,
 frames and bytes it has, one with the SHA-256 of its bytes but the last that
 counts, and where bytes stand behind that, as a crash may leave them, a line
-with its place.
+with its place, and one where they are more than a crash leaves: then no command
+cuts them off.
 With POINT it tells whether POINT's last checkpoint is one of this journal: its
 entries are taken anew, and what they make is compared with the checkpoint. The
 console has the line of quick.
-With N and HEX it tells whether HEX is the SHA-256 of the bytes of the first N
-entries, as such a line had them once. The console has that line again.
+With N and HEX, from a line 'sha256 HEX of N entries' that verify told once, it
+tells whether HEX still is the SHA-256 of the bytes of the first N entries. The
+console has that line again.
 Status: 0 it is a journal, and POINT or HEX is its own; 2 wrong words; 3 a file
 isn't there, or couldn't be read; 4 the console couldn't be written; 6 JOURNAL
 is no journal, or POINT has no checkpoints, but something else; 8 memory ran

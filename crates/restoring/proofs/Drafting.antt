@@ -19,6 +19,7 @@ use Rattle.numbered_store.proofs.Tied.{kept_fields}
 use Rattle.kept_rows.specs.declared.row.KeptRow.{KeptRow}
 use Rattle.kept_rows.specs.Rows.{row_of}
 use Rattle.commit_journal.specs.Journal.{IsPayload}
+use Rattle.commit_journal.specs.declared.format.TheConstants.{LARGEST_PAYLOAD}
 use Rattle.checkpoint.specs.Format.{part_bytes, row_bytes, kept_bytes, head_bytes, ties_of}
 use Rattle.checkpoint.specs.Parts.{IsPart, IsKeptRow, ArePartsOf}
 use Rattle.checkpoint.specs.Points.{half_checkpoint}
@@ -94,7 +95,7 @@ rows_bytes_more : (last : List KeptRow) (r : KeptRow) → part_bytes (Rows (last
 unfolding part_bytes
 rows_bytes_more last r = ap (λ bytes. 0x52 ∷ bytes) (flat_map-append row_bytes last (r ∷ []) ∙ ap (λ bytes. flat_map row_bytes last ++ bytes) (append-nil (row_bytes r)))
 
-row_added : (rows : List ClassRow) (whole : List (List ℕ)) (filling out : List ℕ) (r : KeptRow) → length filling ≤ 1726389 → IsKeptRow r → out ≡ filling ++ row_bytes r → IsDraft rows whole filling
+row_added : (rows : List ClassRow) (whole : List (List ℕ)) (filling out : List ℕ) (r : KeptRow) → length filling + length (row_bytes r) ≤ LARGEST_PAYLOAD → IsKeptRow r → out ≡ filling ++ row_bytes r → IsDraft rows whole filling
     → IsDraft (rows ++ class_row_of r ∷ []) whole out
 row_added rows whole filling out r room can is d = record {
   chunks = d.chunks;
@@ -107,7 +108,7 @@ row_added rows whole filling out r room can is d = record {
   open_is = rows_bytes_more d.last r ∙ ap (λ bytes. bytes ++ row_bytes r) d.open_is ∙ sym is;
   can_be = all_more IsKeptRow d.last r d.can_be can;
   fit = d.fit;
-  short = omega (arith, room, ap length is, length-append filling (row_bytes r), row_length r can);
+  short = omega (arith, room, ap length is, length-append filling (row_bytes r));
 }
 
 -- ---- a kept record as a row
@@ -155,13 +156,20 @@ made_bytes : (class : Class) (key : Key) (kept : StoredRecord) → row_bytes (ro
 unfolding row_bytes
 made_bytes class key kept = ap (kept_bytes class) (made_row class key kept)
 
+-- it has room in a payload
+pub made_short : (class : Class) (key : Key) (kept : StoredRecord) (row : List ℕ) → CanBeKept (key, kept_record kept) → All HasUtf8Texts (fields_of (kept_record kept))
+    → row ≡ kept_bytes class (key, kept_record kept) → length row ≤ 1474636
+made_short class key kept row can utf8 is =
+    omega (arith, row_length (row_made class key kept) (made_can class key kept can utf8), ap length (made_bytes class key kept), ap length is)
+
 -- a kept record comes behind the others
-pub added : (rows : List ClassRow) (whole now : List (List ℕ)) (filling out : List ℕ) (class : Class) (key : Key) (kept : StoredRecord) → length filling ≤ 1726389 → CanBeKept (key, kept_record kept)
-    → All HasUtf8Texts (fields_of (kept_record kept)) → out ≡ filling ++ kept_bytes class (key, kept_record kept) → now ≡ whole → IsDraft rows whole filling
-    → IsDraft (rows ++ (class, (key, kept_record kept)) ∷ []) now out
-added rows whole now filling out class key kept room can utf8 is same d =
+pub added : (rows : List ClassRow) (whole now : List (List ℕ)) (filling row out : List ℕ) (class : Class) (key : Key) (kept : StoredRecord) → length filling + length row ≤ LARGEST_PAYLOAD
+    → row ≡ kept_bytes class (key, kept_record kept) → CanBeKept (key, kept_record kept) → All HasUtf8Texts (fields_of (kept_record kept)) → out ≡ filling ++ row → now ≡ whole
+    → IsDraft rows whole filling → IsDraft (rows ++ (class, (key, kept_record kept)) ∷ []) now out
+added rows whole now filling row out class key kept room bytes can utf8 is same d =
     let r = row_made class key kept in
-    let one = row_added rows whole filling out r room (made_can class key kept can utf8) (is ∙ ap (λ bytes. filling ++ bytes) (sym (made_bytes class key kept))) d in
+    let row_is : row ≡ row_bytes r = bytes ∙ sym (made_bytes class key kept) in
+    let one = row_added rows whole filling out r (omega (arith, room, ap length row_is)) (made_can class key kept can utf8) (is ∙ ap (λ bytes. filling ++ bytes) row_is) d in
     subst (λ ps. IsDraft (rows ++ (class, (key, kept_record kept)) ∷ []) ps out) (sym same)
     (subst (λ (row : Row). IsDraft (rows ++ (class, row) ∷ []) whole out) (made_row class key kept) one)
 

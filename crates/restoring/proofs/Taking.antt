@@ -1,5 +1,5 @@
 -- How a history is taken up from a checkpoint.
-use Rattle.std.proofs.Common.{◌≡◌, ◌∙◌, ℕ, ◌+◌, ◌≤◌, List, length, take, Option, Some, None, IfSome, refl, sym, ap, subst, ◌⊎◌, inl, inr}
+use Rattle.std.proofs.Common.{◌≡◌, ◌∙◌, ℕ, zero, suc, ◌+◌, ◌≤◌, List, length, take, Option, Some, None, IfSome, refl, sym, ap, subst, ◌⊎◌, inl, inr, arith}
 use Rattle.std.specs.Prelude.{All}
 use Rattle.std.proofs.lemmas.List.Elements.{All-take}
 use Rattle.marc_types.specs.declared.entry.Entry.{Entry}
@@ -28,7 +28,7 @@ front_of : (history : List Entry) (point : Option Point) (taken : ℕ) (begun : 
 front_of history None taken begun b of = blank_front history taken begun b
 front_of history (Some point) taken begun b of = at b where
   at : (CanBeTaken (length history) point × IsTakenUp point taken begun) ⊎ ((CanBeTaken (length history) point → ⊥) × IsBlank taken begun) → begun ≡ state_of (take taken history)
-  at (inl up) = up.1.state_is ∙ of up.0.within ∙ ap (λ n. state_of (take n history)) (sym up.1.taken_is)
+  at (inl up) = up.1.state_is ∙ of up.0 ∙ ap (λ n. state_of (take n history)) (sym up.1.taken_is)
   at (inr none) = blank_front history taken begun none.1
 
 -- where the checkpoint is the history's, the state is that behind the whole
@@ -36,19 +36,37 @@ pub whole_state : (history : List Entry) (point : Option Point) (taken : ℕ) (b
     → IsOfHistory point history → s ≡ state_of history
 whole_state history point taken begun s begins is of = is ∙ resumed_whole history taken begun (front_of history point taken begun begins of)
 
--- a checkpoint of a history of admitted entries is taken up
+-- where nothing is taken, nothing is begun with: a checkpoint that is taken up is of some entries
+unspared_front : (history : List Entry) (point : Option Point) (taken : ℕ) (begun : State) → BeginsWith (length history) point taken begun → taken ≡ 0
+    → begun ≡ state_of (take taken history)
+unspared_front history None taken begun b none = blank_front history taken begun b
+unspared_front history (Some point) taken begun b none = at b where
+  at : (CanBeTaken (length history) point × IsTakenUp point taken begun) ⊎ ((CanBeTaken (length history) point → ⊥) × IsBlank taken begun) → begun ≡ state_of (take taken history)
+  at (inl up) = absurd (omega (arith, up.0.some, up.1.taken_is, none))
+  at (inr blank) = blank_front history taken begun blank.1
+
+-- so the state is that behind the whole
+pub unspared_state : (history : List Entry) (point : Option Point) (taken : ℕ) (begun s : State) → BeginsWith (length history) point taken begun → s ≡ resumed begun taken history
+    → taken ≡ 0 → s ≡ state_of history
+unspared_state history point taken begun s begins is none = is ∙ resumed_whole history taken begun (unspared_front history point taken begun begins none)
+
+-- a checkpoint of a history of admitted entries is taken up, unless it is of none
 pub taken_up : (history : List Entry) (point : Point) (taken : ℕ) (begun : State) → All IsAdmitted history → point.entries ≤ length history
     → held_state point ≡ state_of (take point.entries history) → BeginsWith (length history) (Some point) taken begun → taken ≡ point.entries
 taken_up history point taken begun admitted within is b = at b where
   front : All IsAdmitted (take point.entries history)
   front = All-take IsAdmitted point.entries history admitted
 
-  can : CanBeTaken (length history) point
-  can = record { within = within; stands = subst IsStanding (sym is) (history_stands (take point.entries history) front (every_state_valid (take point.entries history) front)) }
+  can : 1 ≤ point.entries → CanBeTaken (length history) point
+  can some = record { some = some; within = within; stands = subst IsStanding (sym is) (history_stands (take point.entries history) front (every_state_valid (take point.entries history) front)) }
+
+  unless_none : (n : ℕ) → point.entries ≡ n → (CanBeTaken (length history) point → ⊥) × IsBlank taken begun → taken ≡ point.entries
+  unless_none zero is_n none = none.1.none ∙ sym is_n
+  unless_none (suc n) is_n none = absurd (none.0 (can (omega (arith, is_n))))
 
   at : (CanBeTaken (length history) point × IsTakenUp point taken begun) ⊎ ((CanBeTaken (length history) point → ⊥) × IsBlank taken begun) → taken ≡ point.entries
   at (inl up) = up.1.taken_is
-  at (inr none) = absurd (none.0 can)
+  at (inr none) = unless_none point.entries refl none
 
 -- ---- one entry after the other
 

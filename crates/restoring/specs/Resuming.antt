@@ -19,8 +19,10 @@ held_state point = state_of_rows point.rows
 abbrev pub IsInOrder : Point → Type 0
 IsInOrder point = are_in_order point.rows ≡ true
 
--- a history of so many entries can take a checkpoint up: it is of no more of them, and a catalogue can begin with its state
+-- A history of so many entries can take a checkpoint up: it is of some of them, of no more than there are, and a catalogue can begin with
+-- its state.
 pub record CanBeTaken (count : ℕ) (point : Point) : Type 0 where
+  pub some : 1 ≤ point.entries
   pub within : point.entries ≤ count
   pub stands : IsStanding (held_state point)
 
@@ -46,9 +48,9 @@ pub record IsResumed (point : Option Point) (history : List Entry) (restored : R
   pub begins : BeginsWith (length history) point restored.taken begun
   pub engine_is : restored.engine ≡ kept_engine (resumed begun restored.taken history)
 
--- the checkpoint, if there is one, is of the history: where it is of no more entries, its state is that behind so many of them
+-- the checkpoint, if there is one that can be taken up, is of the history: its state is that behind so many of its entries
 abbrev pub IsOfHistory : Option Point → List Entry → Type 0
-IsOfHistory point history = IfSome point (λ p. p.entries ≤ length history → held_state p ≡ state_of (take p.entries history))
+IsOfHistory point history = IfSome point (λ p. CanBeTaken (length history) p → held_state p ≡ state_of (take p.entries history))
 
 -- a checkpoint is of a front of the history: of no more entries, and its state is exactly the one behind so many of them
 pub record IsOfFront (history : List Entry) (point : Point) : Type 0 where

@@ -42,7 +42,7 @@ fn begin(alloc: Global, point: Option<Point>, count: u64) -> Result<Restored, No
     let Some(point) = point else {
         return Ok(nothing_taken(alloc));
     };
-    if point.entries > count {
+    if point.entries == 0 || point.entries > count {
         return Ok(nothing_taken(alloc));
     }
     match from_rows(alloc, point.rows.into_vec()) {
@@ -74,9 +74,9 @@ fn go_on<L: Ledger>(
     Ok(())
 }
 
-/// The state behind a history of these entries, with the help of a checkpoint, where there is one. It is taken up where the history has
-/// no fewer entries than it holds and a catalogue can begin with its state; then only the entries behind it are committed, and else all.
-/// No two entries are prepared at once.
+/// The state behind a history of these entries, with the help of a checkpoint, where there is one. It is taken up where it holds some
+/// entries, the history has no fewer, and a catalogue can begin with its state; then only the entries behind it are committed, and else
+/// all. No two entries are prepared at once.
 pub fn resume<L: Ledger>(
     alloc: Global,
     point: Option<Point>,
@@ -89,8 +89,9 @@ pub fn resume<L: Ledger>(
     // The state is the one begun with, gone on with by the entries behind those that were taken.
     ensures resumed { IfOk result (IsResumed point entries.now) }
 
-    // So it is that behind the history, unless the checkpoint is another history's.
+    // So it is that behind the history, unless the checkpoint is taken up and is another history's.
     ensures whole { IfOk result (λ r. IsOfHistory point entries.now → r.engine.state ≡ state_of entries.now) }
+    ensures unspared { IfOk result (λ r. r.taken ≡ 0 → r.engine.state ≡ state_of entries.now) }
 
     // No more records are visited than the entries behind the checkpoint touch.
     ensures visits { (taken : ℕ) (begun : State) → BeginsWith (length entries.now) point taken begun

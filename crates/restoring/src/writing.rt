@@ -1,5 +1,5 @@
 //! A checkpoint of a catalogue's state that is appended to a log.
-ghost use Rattle.std.specs.Prelude.{◌≡◌, ℕ, ◌<◌, ◌≤◌, List, [], ◌∷◌, ◌++◌, length, All, Option, Some, true, false, IsErrOf, IfOk, OnOk, OnErr};
+ghost use Rattle.std.specs.Prelude.{◌≡◌, ℕ, ◌+◌, ◌<◌, ◌≤◌, List, [], ◌∷◌, ◌++◌, length, All, Option, Some, true, false, IsErrOf, IfOk, OnOk, OnErr};
 ghost use Rattle.outside.specs.Disk.{LeavesOnly};
 ghost use Rattle.outside.specs.Fault.{HasWriteCause};
 ghost use Rattle.catalogue_rules.specs.State.{Row, rows_of};
@@ -7,7 +7,8 @@ ghost use Rattle.catalogue_rules.specs.Settle.{state_of};
 ghost use Rattle.catalogue_rules.specs.Valid.{IsValid};
 ghost use Rattle.numbered_store.specs.Kept.{kept_record};
 ghost use Rattle.commit_journal.specs.Journal.{Continues, IsDurableLog};
-ghost use Rattle.checkpoint.specs.Format.{part_bytes};
+ghost use Rattle.commit_journal.specs.declared.format.TheConstants.{LARGEST_PAYLOAD};
+ghost use Rattle.checkpoint.specs.Format.{kept_bytes, part_bytes};
 ghost use Rattle.checkpoint.specs.declared.part.Part.TheVariants.{Rows};
 ghost use Rattle.checkpoint.specs.declared.point.Point.{Point as AnyPoint};
 ghost use Rattle.restoring.specs.Drafts.{ClassRow, CanBeKept, IsDraft, IsWritten, of_class, rows_in_turn};
@@ -22,8 +23,23 @@ use outside::{Bytes, Disk, WriteFault};
 use std::alloc::Global;
 use std::mem;
 
-/// The most bytes that a kept record takes in a payload, with the byte before it.
-const LONGEST_ROW: usize = 1_474_636;
+/// A kept record, as it stands in a payload.
+#[tactic(auto, using(crate::proofs::Drafting::made_short))]
+fn written_row(
+    alloc: Global,
+    class: Class,
+    key: &Key,
+    kept: &StoredRecord,
+) -> Result<Vec<u8>, NoMemory>
+    requires { CanBeKept (key.now, kept_record kept.now) }
+    ensures bytes { IfOk result (λ row. row.items ≡ kept_bytes class (key.now, kept_record kept.now)) }
+    ensures short { IfOk result (λ row. length row.items ≤ 1474636) }
+{
+    kept.each_text_is_utf8();
+    let mut row = Vec::new(alloc);
+    append_row(alloc, &mut row, class, key, kept)?;
+    Ok(row)
+}
 
 /// A checkpoint that is made in memory, and not ended yet: the payloads that are whole, and the one to which kept records are appended.
 #[derive(Drop)]
@@ -60,14 +76,15 @@ impl Draft {
         Ok(())
     }
 
-    /// Closes the payload of kept records where one more might not have room in it.
+    /// Closes the payload of kept records where one of so many bytes has no room in it.
     #[tactic(auto, using(crate::proofs::Drafting::none_filling))]
-    fn make_room(&mut self, alloc: Global) -> Result<(), NoMemory>
+    fn make_room(&mut self, alloc: Global, len: usize) -> Result<(), NoMemory>
+        requires short { len ≤ 1474636 }
         ensures same { OnOk result ((rows : List ClassRow) → IsDraft rows self.old.whole.items self.old.filling.items
             → IsDraft rows self.new.whole.items self.new.filling.items) }
-        ensures room { OnOk result (length self.new.filling.items ≤ 1726389) }
+        ensures room { OnOk result (length self.new.filling.items + len ≤ LARGEST_PAYLOAD) }
     {
-        if self.filling.len() > LARGEST_PAYLOAD - LONGEST_ROW {
+        if self.filling.len() > LARGEST_PAYLOAD - len {
             self.close(alloc)?;
         }
         Ok(())
@@ -86,10 +103,12 @@ impl Draft {
         ensures { OnOk result ((rows : List ClassRow) → IsDraft rows self.old.whole.items self.old.filling.items
             → IsDraft (rows ++ (class, (key.now, kept_record kept.now)) ∷ []) self.new.whole.items self.new.filling.items) }
     {
-        self.make_room(alloc)?;
         // its texts are read as they are written
         kept.each_text_is_utf8();
-        append_row(alloc, &mut self.filling, class, key, kept)
+        let row = written_row(alloc, class, key, kept)?;
+        self.make_room(alloc, row.len())?;
+        self.filling.extend_from_slice(row.as_slice())?;
+        Ok(())
     }
 
     /// Closes the payload of kept records, if it has one.

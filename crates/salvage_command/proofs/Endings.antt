@@ -24,14 +24,13 @@ use Rattle.migrate_command.specs.declared.fault.MigrateFault.{MigrateFault}
 use Rattle.migrate_command.specs.declared.fault.MigrateFault.TheVariants as migrating
 use Rattle.migrate_command.specs.Migrations.{IsFit, IsUnfit, IsUnmigrated, IsBrought}
 use Rattle.migrate_command.specs.Told.{fault_of_migrating}
-use Rattle.migrate_command.specs.Bringing as bringing
-use Rattle.migrate_command.specs.Bringing.{IsBroughtInto, IsUnbrought}
+use Rattle.migrate_command.specs.Bringing.{IsTakenInto, IsNotTaken}
 use Rattle.migrate_command.specs.Migrates.{BringsInto, Unopened, IsSettledLog, Untouched, HasInEachImage}
 use Rattle.migrate_command.proofs.Rooms.{brings_across, settled_across, keeps_across}
 use Rattle.memory_files.specs.declared.reading.ReadFault.{ReadFault}
 use Rattle.memory_files.specs.declared.reading.ReadFault.TheVariants as reading
 use Rattle.unheld_journals.specs.Untaken.{fault_of_reading}
-use Rattle.sound_frames.specs.Sound.{Salvage, IsSoundOf}
+use Rattle.sound_frames.specs.Sound.{SoundPart, IsSoundOf}
 use Rattle.sound_frames.proofs.Once.{sound_once}
 use Rattle.sound_frames.proofs.Framed.{sound_framed}
 use Rattle.salvage_command.specs.Told.{salvaged_lines}
@@ -57,7 +56,7 @@ no_input migrating.NoMemory is = cc
 module _ (journal into : List ℕ) (o : Outcome) where
   -- why a fault is told, where the room tells the bytes
   abbrev pub IsSo : Fault → Type 0
-  IsSo why = IsSomeAnd (o.old.file journal) (λ log. (all : Salvage) × IsSoundOf log all × WhyNot o.old o.new all into why)
+  IsSo why = IsSomeAnd (o.old.file journal) (λ log. (all : SoundPart) × IsSoundOf log all × WhyNot o.old o.new all into why)
 
   -- nothing was opened to be written
   module _ (why : Fault) (stays : SameBut o.old o.new []) (is : o.end ≡ Told why) (told : IsTold why o) where
@@ -103,7 +102,7 @@ module _ (journal into : List ℕ) (o : Outcome) where
     found_ends log (Found_nothing all place of none nothing) = subst (λ w. EndsSalvaging (Told w)) (sym none) tt
     found_ends log (Found_much all of full much) = subst (λ w. EndsSalvaging (Told w)) (sym full) tt
 
-    found_so : (log : List ℕ) → IsUnfound log why → why ≢ Memory → (all : Salvage) × IsSoundOf log all × WhyNot o.old o.new all into why
+    found_so : (log : List ℕ) → IsUnfound log why → why ≢ Memory → (all : SoundPart) × IsSoundOf log all × WhyNot o.old o.new all into why
     found_so log (NoMemory memory) other = absurd (other memory)
     found_so log (Found_nothing all place of none nothing) other = (all, of, Nothing place none nothing stays)
     found_so log (Found_much all of full much) other = (all, of, TooMuch full much stays)
@@ -113,7 +112,7 @@ module _ (journal into : List ℕ) (o : Outcome) where
     salvages_unfound log read unfound no_device no_input =
         salvages_untouched (found_ends log unfound) no_device (λ input. absurd (no_input input))
         (λ other memory tells.
-        subst (λ f. IsSomeAnd f (λ l. (all : Salvage) × IsSoundOf l all × WhyNot o.old o.new all into why)) (sym (read tells)) (found_so log unfound memory))
+        subst (λ f. IsSomeAnd f (λ l. (all : SoundPart) × IsSoundOf l all × WhyNot o.old o.new all into why)) (sym (read tells)) (found_so log unfound memory))
 
   -- what was found was brought into the new journal, or not
   module _ (differ : into ≢ journal) (log : List ℕ) (mid : RoomView) (text : List ℕ) (entries : List Entry) (first : SameBut o.old mid []) (second : SameBut mid o.new (into ∷ []))
@@ -140,21 +139,21 @@ module _ (journal into : List ℕ) (o : Outcome) where
     same_bytes = ap bytes_or_none (first.files into tt)
 
     -- what is sound of the bytes is what was found
-    same_log : (other : List ℕ) (all : Salvage) → IsSalvageOf o.old journal other all → other ≡ log
+    same_log : (other : List ℕ) (all : SoundPart) → IsSalvageOf o.old journal other all → other ≡ log
     same_log other all of = let both : Some other ≡ Some log = sym of.1 ∙ read of.0 in cc
 
-    same_all : (other : List ℕ) (all : Salvage) → IsSalvageOf o.old journal other all → f.all ≡ all
+    same_all : (other : List ℕ) (all : SoundPart) → IsSalvageOf o.old journal other all → f.all ≡ all
     same_all other all of = sound_once log f.all all f.is (subst (λ l. IsSoundOf l all) (same_log other all of) of.2)
 
-    same_entries : (other : List ℕ) (all : Salvage) → IsSalvageOf o.old journal other all → entries ≡ all.entries
+    same_entries : (other : List ℕ) (all : SoundPart) → IsSalvageOf o.old journal other all → entries ≡ all.entries
     same_entries other all of = f.entries_are ∙ ap (λ s. s.entries) (same_all other all of)
 
-    brings_all : (other : List ℕ) (all : Salvage) → IsSalvageOf o.old journal other all → ∥ BringsInto all.entries o.old o.new into ∥₁
+    brings_all : (other : List ℕ) (all : SoundPart) → IsSalvageOf o.old journal other all → ∥ BringsInto all.entries o.old o.new into ∥₁
     brings_all other all of =
         ∣ subst (λ es. BringsInto es o.old o.new into) (same_entries other all of)
         (brings_across entries o.old mid o.new o.new journal into differ before behind (brings was (first.tells ∙ of.0) has)) ∣₁
 
-    unfit_found : (other : List ℕ) (all : Salvage) → IsSalvageOf o.old journal other all → IsUnfit journal_limits all.entries (log_bytes o.old into)
+    unfit_found : (other : List ℕ) (all : SoundPart) → IsSalvageOf o.old journal other all → IsUnfit journal_limits all.entries (log_bytes o.old into)
         → IsUnfit journal_limits entries (log_bytes mid into)
     unfit_found other all of unfit =
         subst (IsUnfit journal_limits entries) (sym same_bytes) (subst (λ es. IsUnfit journal_limits es (log_bytes o.old into)) (sym (same_entries other all of)) unfit)
@@ -162,7 +161,7 @@ module _ (journal into : List ℕ) (o : Outcome) where
     in_file : (P : List ℕ → Type 0) → o.old.tells ≡ true → P log → IsSomeAnd (o.old.file journal) P
     in_file P tells so = subst (λ x. IsSomeAnd x P) (sym (read tells)) so
 
-    module _ (b : IsBroughtInto entries 1 mid o.new into) where
+    module _ (b : IsTakenInto entries mid o.new into) where
       was_fit : o.old.tells ≡ true → WasFit o.old f.all into
       was_fit tells =
           let fit = b.fit (first.tells ∙ tells) in record {
@@ -171,16 +170,16 @@ module _ (journal into : List ℕ) (o : Outcome) where
             fit = subst (λ es. IsFit journal_limits es fit.0 (log_bytes o.old into)) f.entries_are (subst (IsFit journal_limits entries fit.0) same_bytes fit.1);
           }
 
-      alone_not : (other : List ℕ) (all : Salvage) → IsSalvageOf o.old journal other all → IsUnfit journal_limits all.entries (log_bytes o.old into) → ⊥
+      alone_not : (other : List ℕ) (all : SoundPart) → IsSalvageOf o.old journal other all → IsUnfit journal_limits all.entries (log_bytes o.old into) → ⊥
       alone_not other all of unfit = let fit = b.fit (first.tells ∙ of.0) in unfit_found other all of unfit fit.0 fit.1
 
-      all_brought : (other : List ℕ) (all : Salvage) → IsSalvageOf o.old journal other all → IsBrought all.entries (log_bytes o.new into)
+      all_brought : (other : List ℕ) (all : SoundPart) → IsSalvageOf o.old journal other all → IsBrought all.entries (log_bytes o.new into)
       all_brought other all of = subst (λ es. IsBrought es (log_bytes o.new into)) (same_entries other all of) (b.all was (first.tells ∙ of.0) has)
 
-      all_durable : (other : List ℕ) (all : Salvage) → IsSalvageOf o.old journal other all → HasInEachImage all.entries o.new into
+      all_durable : (other : List ℕ) (all : SoundPart) → IsSalvageOf o.old journal other all → HasInEachImage all.entries o.new into
       all_durable other all of = subst (λ es. HasInEachImage es o.new into) (same_entries other all of) (b.durable was (first.tells ∙ of.0) has)
 
-      lines_are : (other : List ℕ) (all : Salvage) → IsSalvageOf o.old journal other all → text ≡ salvaged_lines other all
+      lines_are : (other : List ℕ) (all : SoundPart) → IsSalvageOf o.old journal other all → text ≡ salvaged_lines other all
       lines_are other all of = f.lines ∙ (λ i. salvaged_lines (sym (same_log other all of) i) (same_all other all of i))
 
       pub salvages_brought : IsResultTold o.told o.now o.faults o.faults_now text false o.end → Salvages journal into o
@@ -195,7 +194,7 @@ module _ (journal into : List ℕ) (o : Outcome) where
         so = λ w also. absurd (told_not_done o.end w also done);
         input = λ also. absurd (told_not_done o.end Input also done);
         device = λ also. absurd (told_not_done o.end Device also done);
-        fit = λ untold tells. in_file (λ l. (all : Salvage) × IsSoundOf l all × WasFit o.old all into) tells (f.all, f.is, was_fit tells);
+        fit = λ untold tells. in_file (λ l. (all : SoundPart) × IsSoundOf l all × WasFit o.old all into) tells (f.all, f.is, was_fit tells);
         all = λ other all untold of. all_brought other all of;
         durable = λ other all untold of. all_durable other all of;
         line = λ other all also of. subst (Appends o.told o.now) (lines_are other all of) line;
@@ -213,7 +212,7 @@ module _ (journal into : List ℕ) (o : Outcome) where
         so = λ w also. absurd (told_not_unwritten o.end w Console also unwritten);
         input = λ also. absurd (told_not_unwritten o.end Input Console also unwritten);
         device = λ also. absurd (told_not_unwritten o.end Device Console also unwritten);
-        fit = λ untold tells. in_file (λ l. (all : Salvage) × IsSoundOf l all × WasFit o.old all into) tells (f.all, f.is, was_fit tells);
+        fit = λ untold tells. in_file (λ l. (all : SoundPart) × IsSoundOf l all × WasFit o.old all into) tells (f.all, f.is, was_fit tells);
         all = λ other all untold of. all_brought other all of;
         durable = λ other all untold of. all_durable other all of;
         line = λ other all also. absurd (done_not_unwritten o.end Console also unwritten);
@@ -221,18 +220,17 @@ module _ (journal into : List ℕ) (o : Outcome) where
         console = λ also. rose;
       }
 
-    pub salvages_unbrought : (why : Fault) → o.end ≡ Told why → IsTold why o → IsUnbrought entries 1 mid o.new into why
+    pub salvages_unbrought : (why : Fault) → o.end ≡ Told why → IsTold why o → IsNotTaken entries mid o.new into why
         → (why ≢ Device → mid.tells ≡ true → log_bytes o.new into ≡ log_bytes mid into) → (why ≢ Device → mid.tells ≡ true → IsSettledLog mid o.new into)
         → Salvages journal into o
-    salvages_unbrought why is told (bringing.Newest newest other stays) kept settled = absurd (other refl)
-    salvages_unbrought why is told (bringing.Refused reason one named so alone rose) kept settled = record {
-      ends = subst EndsSalvaging (sym is) (subst (λ w. EndsSalvaging (Told w)) (sym named) (migrating_ends reason));
+    salvages_unbrought why is told t kept settled = record {
+      ends = subst EndsSalvaging (sym is) (subst (λ w. EndsSalvaging (Told w)) (sym t.is) (migrating_ends t.reason));
       only = apart;
       brings = brings_all;
       alone = λ other all of unfit.
           keeps_where (why ≡ Device) (IsDeviceOf o into) o.old o.new into (λ device. (is ∙ ap Told device, risen device))
           (keeps_across entries o.old mid o.new o.new journal into differ before behind (why ≡ Device)
-          (alone was (first.tells ∙ of.0) has (unfit_found other all of unfit)));
+          (t.alone was (first.tells ∙ of.0) has (unfit_found other all of unfit)));
       kept = λ w also differs tells. kept (λ device. differs (sym (told_once o.end why w is also) ∙ device)) (first.tells ∙ tells) ∙ same_bytes;
       settled = λ w also differs tells.
           settled_across entries o.old mid o.new o.new journal into differ before behind
@@ -240,13 +238,13 @@ module _ (journal into : List ℕ) (o : Outcome) where
       told = λ w also. subst (λ x. IsTold x o) (told_once o.end why w is also) told;
       so = λ w also input memory tells.
           subst IsSo (told_once o.end why w is also)
-          (in_file (λ l. (all : Salvage) × IsSoundOf l all × WhyNot o.old o.new all into why) tells (
+          (in_file (λ l. (all : SoundPart) × IsSoundOf l all × WhyNot o.old o.new all into why) tells (
             f.all,
             f.is,
-            NotTaken reason named f.worth (subst (λ es. IsUnmigrated journal_limits es (log_bytes o.old into) reason) f.entries_are
-                (subst (λ l. IsUnmigrated journal_limits entries l reason) same_bytes (so (first.tells ∙ tells)))),
+            NotTaken t.reason t.is f.worth (subst (λ es. IsUnmigrated journal_limits es (log_bytes o.old into) t.reason) f.entries_are
+                (subst (λ l. IsUnmigrated journal_limits entries l t.reason) same_bytes (t.so (first.tells ∙ tells)))),
           ));
-      input = λ also. absurd (no_input reason (sym named ∙ told_once o.end why Input is also));
+      input = λ also. absurd (no_input t.reason (sym t.is ∙ told_once o.end why Input is also));
       device = λ also. risen (told_once o.end why Device is also);
       fit = λ untold. absurd (never_told o.end why untold is);
       all = λ other all untold. absurd (never_told o.end why untold is);
@@ -258,6 +256,6 @@ module _ (journal into : List ℕ) (o : Outcome) where
       where
         risen : why ≡ Device → Rose (o.old.log_faults into) (o.new.log_faults into)
         risen device =
-            let rises = rose device in
+            let rises = t.rose device in
             let earlier = first.log_counts into in
             omega (arith, rises, earlier)

@@ -5,17 +5,17 @@ use Rattle.entry_record.specs.History.{IsWithin}
 use Rattle.console_lines.specs.declared.fault.Fault.{Fault}
 use Rattle.console_lines.specs.declared.fault.Fault.TheVariants.{NotAJournal, Full, Memory}
 use Rattle.journal_files.specs.Journals.{journal_limits}
-use Rattle.sound_frames.specs.Sound.{Salvage, IsSoundOf, IsNothing}
+use Rattle.sound_frames.specs.Sound.{SoundPart, IsSoundOf, IsNothing}
 use Rattle.salvage_command.specs.Told.{salvaged_lines}
 
 -- something is sound, and it is within the limits
-pub record IsWorth (all : Salvage) : Type 0 where
+pub record IsWorth (all : SoundPart) : Type 0 where
   pub something : (place : ℕ) → IsNothing all place → ⊥
   pub within : IsWithin journal_limits all.entries
 
 -- These entries are sound of the bytes, and worth to be brought; this is to be told.
 pub record IsFoundSound (log : List ℕ) (entries : List Entry) (text : List ℕ) : Type 0 where
-  pub all : Salvage
+  pub all : SoundPart
   pub is : IsSoundOf log all
   pub entries_are : entries ≡ all.entries
   pub worth : IsWorth all
@@ -24,5 +24,5 @@ pub record IsFoundSound (log : List ℕ) (entries : List Entry) (text : List ℕ
 -- nothing is sound of them, or more than the limits; or memory ran out
 pub data IsUnfound (log : List ℕ) (why : Fault) : Type 0 where
   NoMemory : why ≡ Memory → IsUnfound log why
-  Nothing : (all : Salvage) (place : ℕ) → IsSoundOf log all → why ≡ NotAJournal place → IsNothing all place → IsUnfound log why
-  TooMuch : (all : Salvage) → IsSoundOf log all → why ≡ Full → (IsWithin journal_limits all.entries → ⊥) → IsUnfound log why
+  Nothing : (all : SoundPart) (place : ℕ) → IsSoundOf log all → why ≡ NotAJournal place → IsNothing all place → IsUnfound log why
+  TooMuch : (all : SoundPart) → IsSoundOf log all → why ≡ Full → (IsWithin journal_limits all.entries → ⊥) → IsUnfound log why

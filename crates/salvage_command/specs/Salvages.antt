@@ -18,7 +18,7 @@ use Rattle.migrate_command.specs.declared.fault.MigrateFault.{MigrateFault}
 use Rattle.migrate_command.specs.Migrations.{IsFit, IsUnfit, IsUnmigrated, IsBrought}
 use Rattle.migrate_command.specs.Migrates.{BringsInto, IsSettledLog, HasInEachImage}
 use Rattle.migrate_command.specs.Told.{fault_of_migrating}
-use Rattle.sound_frames.specs.Sound.{Salvage, IsSoundOf, IsNothing}
+use Rattle.sound_frames.specs.Sound.{SoundPart, IsSoundOf, IsNothing}
 use Rattle.salvage_command.specs.Told.{salvaged_lines}
 use Rattle.salvage_command.specs.Finding.{IsWorth}
 
@@ -41,20 +41,20 @@ EndsSalvaging (Told OtherHistory) = Unit {0}
 
 -- Why what is sound of a journal is not brought into the log of that name: it is nothing, or passes the limits, and then nothing is opened
 -- to be written; or the log doesn't take it.
-pub data WhyNot (old new : RoomView) (all : Salvage) (into : List ℕ) (why : Fault) : Type 0 where
+pub data WhyNot (old new : RoomView) (all : SoundPart) (into : List ℕ) (why : Fault) : Type 0 where
   Nothing : (place : ℕ) → why ≡ NotAJournal place → IsNothing all place → SameBut old new [] → WhyNot old new all into why
   TooMuch : why ≡ Full → (IsWithin journal_limits all.entries → ⊥) → SameBut old new [] → WhyNot old new all into why
   NotTaken : (reason : MigrateFault) → why ≡ fault_of_migrating reason → IsWorth all
       → IsUnmigrated journal_limits all.entries (log_bytes old into) reason → WhyNot old new all into why
 
 -- something is sound, within the limits, and the log of that name was fit for it
-pub record WasFit (room : RoomView) (all : Salvage) (into : List ℕ) : Type 0 where
+pub record WasFit (room : RoomView) (all : SoundPart) (into : List ℕ) : Type 0 where
   pub worth : IsWorth all
   pub before : List Entry
   pub fit : IsFit journal_limits all.entries before (log_bytes room into)
 
 -- The bytes of the file of that name are told, and this is what is sound of them.
-abbrev pub IsSalvageOf : RoomView → List ℕ → List ℕ → Salvage → Type 0
+abbrev pub IsSalvageOf : RoomView → List ℕ → List ℕ → SoundPart → Type 0
 IsSalvageOf room journal log all = (room.tells ≡ true) × (room.file journal ≡ Some log) × IsSoundOf log all
 
 -- The command `salvage`: what is sound of a journal's bytes is brought into another journal, and the first is only read.
@@ -63,8 +63,8 @@ pub record Salvages (journal into : List ℕ) (o : Outcome) : Type 0 where
   -- no file but the new one changes
   pub only : SameBut o.old o.new (into ∷ [])
   -- the new one gets a front of the sound entries, whatever the end is, and one that is not fit for them is left alone
-  pub brings : (log : List ℕ) (all : Salvage) → IsSalvageOf o.old journal log all → ∥ BringsInto all.entries o.old o.new into ∥₁
-  pub alone : (log : List ℕ) (all : Salvage) → IsSalvageOf o.old journal log all → IsUnfit journal_limits all.entries (log_bytes o.old into)
+  pub brings : (log : List ℕ) (all : SoundPart) → IsSalvageOf o.old journal log all → ∥ BringsInto all.entries o.old o.new into ∥₁
+  pub alone : (log : List ℕ) (all : SoundPart) → IsSalvageOf o.old journal log all → IsUnfit journal_limits all.entries (log_bytes o.old into)
       → KeepsHistory (IsDeviceOf o into) o.old o.new into
   -- unless a device failed, a new one that doesn't get them is as it was, byte for byte, and a crash leaves the same of it
   pub kept : (why : Fault) → o.end ≡ Told why → why ≢ Device → o.old.tells ≡ true → log_bytes o.new into ≡ log_bytes o.old into
@@ -72,17 +72,17 @@ pub record Salvages (journal into : List ℕ) (o : Outcome) : Type 0 where
   -- a fault is told for its reason
   pub told : (why : Fault) → o.end ≡ Told why → IsTold why o
   pub so : (why : Fault) → o.end ≡ Told why → why ≢ Input → why ≢ Memory → o.old.tells ≡ true
-      → IsSomeAnd (o.old.file journal) (λ log. (all : Salvage) × IsSoundOf log all × WhyNot o.old o.new all into why)
+      → IsSomeAnd (o.old.file journal) (λ log. (all : SoundPart) × IsSoundOf log all × WhyNot o.old o.new all into why)
   pub input : o.end ≡ Told Input → Rose (o.old.in_faults journal) (o.new.in_faults journal) × SameBut o.old o.new []
   pub device : o.end ≡ Told Device → Rose (o.old.log_faults into) (o.new.log_faults into)
   -- without one the file was there with something sound, and the new one was fit for it
   pub fit : TellsNoFault o.end → o.old.tells ≡ true
-      → IsSomeAnd (o.old.file journal) (λ log. (all : Salvage) × IsSoundOf log all × WasFit o.old all into)
+      → IsSomeAnd (o.old.file journal) (λ log. (all : SoundPart) × IsSoundOf log all × WasFit o.old all into)
   -- the new one has exactly the sound entries, in its file and in each image, and is of version 2
-  pub all : (log : List ℕ) (all : Salvage) → TellsNoFault o.end → IsSalvageOf o.old journal log all → IsBrought all.entries (log_bytes o.new into)
-  pub durable : (log : List ℕ) (all : Salvage) → TellsNoFault o.end → IsSalvageOf o.old journal log all → HasInEachImage all.entries o.new into
+  pub all : (log : List ℕ) (all : SoundPart) → TellsNoFault o.end → IsSalvageOf o.old journal log all → IsBrought all.entries (log_bytes o.new into)
+  pub durable : (log : List ℕ) (all : SoundPart) → TellsNoFault o.end → IsSalvageOf o.old journal log all → HasInEachImage all.entries o.new into
   -- the console is told what was found, or a front of that, where it failed
-  pub line : (log : List ℕ) (all : Salvage) → o.end ≡ Done → IsSalvageOf o.old journal log all → Appends o.told o.now (salvaged_lines log all)
-  pub front : (log : List ℕ) (all : Salvage) → o.end ≡ console_unwritten → IsSalvageOf o.old journal log all
+  pub line : (log : List ℕ) (all : SoundPart) → o.end ≡ Done → IsSalvageOf o.old journal log all → Appends o.told o.now (salvaged_lines log all)
+  pub front : (log : List ℕ) (all : SoundPart) → o.end ≡ console_unwritten → IsSalvageOf o.old journal log all
       → WritesFront o.told o.now (salvaged_lines log all)
   pub console : o.end ≡ console_unwritten → Rose o.faults o.faults_now

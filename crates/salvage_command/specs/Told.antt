@@ -5,7 +5,7 @@ use Rattle.std.specs.Fmt.{decimal}
 use Rattle.sound_frames.specs.declared.damage.Damage.{Damage}
 use Rattle.sound_frames.specs.declared.damage.Reason.{Reason}
 use Rattle.sound_frames.specs.declared.damage.Reason.TheVariants.{WrongHeader, ClosedGate, Torn, Lost, NoFrame, NotValid}
-use Rattle.sound_frames.specs.Sound.{Salvage, left_out}
+use Rattle.sound_frames.specs.Sound.{SoundPart, left_out}
 
 -- the words of a damage
 abbrev pub reason_words : Reason → List ℕ
@@ -30,6 +30,6 @@ abbrev pub count_line : ℕ → List ℕ
 count_line count = codes "salvaged " ++ decimal count ++ codes " entries\n"
 
 -- how many entries, each damage, and how many bytes are left out
-abbrev pub salvaged_lines : List ℕ → Salvage → List ℕ
+abbrev pub salvaged_lines : List ℕ → SoundPart → List ℕ
 salvaged_lines log all =
     count_line (length all.entries) ++ flat_map damage_line all.damages ++ left_line (left_out log all) all.end

@@ -35,8 +35,8 @@ pub fn salvage_journal<R: Room>(
         Ok(found) => found,
         Err(fault) => return tell(console, fault),
     };
-    match bring_history(alloc, room, found.entries.as_slice(), into) {
-        Ok(_count) => tell_result(console, found.text.as_str(), false),
+    match bring_history(alloc, room, found.entries, into) {
+        Ok(()) => tell_result(console, found.text.as_str(), false),
         Err(fault) => tell(console, fault),
     }
 }

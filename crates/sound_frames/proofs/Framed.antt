@@ -11,7 +11,7 @@ use Rattle.commit_journal.proofs.Walks.{frame_sizes}
 use Rattle.commit_journal.proofs.Logs.{frames_walked, frames_blank, version_long}
 use Rattle.commit_journal.proofs.Appends.{chain_leads}
 use Rattle.entry_history.specs.Payloads.{Newer, Older, IsHistory, NoMore, OneMore}
-use Rattle.sound_frames.specs.Sound.{HasEntries, behind_gate, Salvage, IsSoundFrom, End, Pass, IsSoundOf, Blank, Long}
+use Rattle.sound_frames.specs.Sound.{HasEntries, behind_gate, SoundPart, IsSoundFrom, End, Pass, IsSoundOf, Blank, Long}
 
 -- each can stand in a frame
 abbrev AreFit : List (List ℕ) → Type 0
@@ -41,7 +41,7 @@ record HoldAll (version : ℕ) (before entries : List Entry) : Type 0 where
   pub fit : AreFit payloads
   pub holds : IsHistory version before payloads (before ++ entries)
 
-hold_all : (version : ℕ) (log : List ℕ) {place : ℕ} {before : List Entry} {s : Salvage} → IsSoundFrom version log place before s → HoldAll version before s.entries
+hold_all : (version : ℕ) (log : List ℕ) {place : ℕ} {before : List Entry} {s : SoundPart} → IsSoundFrom version log place before s → HoldAll version before s.entries
 hold_all version log (End place before s damages ends is) =
     let none : s.entries ≡ [] = ap (λ x. x.entries) is in
     record {
@@ -135,7 +135,7 @@ framed_as version none fit (OneMore before es all payload payloads (Older one he
     framed HEADER_1 version right_1 (λ rest. says_1 rest ∙ sym one) (λ rest. refl) refl (payload ∷ payloads) all (unjoined payload payloads fit)
     (subst (λ b. IsHistory version b (payload ∷ payloads) all) none (OneMore before es all payload payloads (Older one held) others))
 
-pub sound_framed : (log : List ℕ) (s : Salvage) → IsSoundOf log s → HasEntries s.entries
+pub sound_framed : (log : List ℕ) (s : SoundPart) → IsSoundOf log s → HasEntries s.entries
 sound_framed log s (Blank short is) = subst HasEntries (sym (ap (λ x. x.entries) is)) nothing
 sound_framed log s (Long version more long read from is) =
     let all = hold_all version log from in

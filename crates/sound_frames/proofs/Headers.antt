@@ -4,7 +4,6 @@ use Rattle.std.proofs.lemmas.List.{length-take}
 use Rattle.std.proofs.lemmas.Bool.Decides.{nat_tests}
 use Rattle.commit_journal.specs.declared.format.TheConstants.{HEADER_1, HEADER_2, FIRST_GATE}
 use Rattle.commit_journal.specs.Log.{first_differing, header_fault}
-use Rattle.sound_frames.specs.declared.version.TheConstants.{HEADER}
 
 right_on : (place : ℕ) (first second : List ℕ) → length first ≡ length second → first_differing place first second second ≡ None
 unfolding first_differing
@@ -39,9 +38,9 @@ filled_same log = filled 0 HEADER_1 HEADER_2 (take FIRST_GATE log) refl (let sho
 header_at : (log header : List ℕ) → header ≡ take FIRST_GATE log ++ drop (length (take FIRST_GATE log)) HEADER_2 → first_differing 0 HEADER_1 HEADER_2 header ≡ header_fault log
 header_at log header is = ap (first_differing 0 HEADER_1 HEADER_2) is ∙ filled_same log
 
-pub none_wrong : (log header : List ℕ) → header ≡ take FIRST_GATE log ++ drop (length (take FIRST_GATE log)) HEADER → first_differing 0 HEADER_1 HEADER_2 header ≡ None → None ≡ header_fault log
+pub none_wrong : (log header : List ℕ) → header ≡ take FIRST_GATE log ++ drop (length (take FIRST_GATE log)) HEADER_2 → first_differing 0 HEADER_1 HEADER_2 header ≡ None → None ≡ header_fault log
 none_wrong log header is right = sym right ∙ header_at log header is
 
-pub first_wrong : (log header : List ℕ) (place : ℕ) → header ≡ take FIRST_GATE log ++ drop (length (take FIRST_GATE log)) HEADER
+pub first_wrong : (log header : List ℕ) (place : ℕ) → header ≡ take FIRST_GATE log ++ drop (length (take FIRST_GATE log)) HEADER_2
     → first_differing 0 HEADER_1 HEADER_2 header ≡ Some place → Some place ≡ header_fault log
 first_wrong log header place is wrong = sym wrong ∙ header_at log header is

@@ -5,7 +5,7 @@ use Rattle.commit_journal.specs.declared.format.TheConstants.{FIRST_GATE}
 use Rattle.commit_journal.specs.Log.{payload_of}
 use Rattle.entry_history.proofs.Histories.{holds_once}
 use Rattle.sound_frames.specs.declared.damage.Damage.{Damage}
-use Rattle.sound_frames.specs.Sound.{behind_gate, next_gate, gate_damage, header_damage, IsSound, MayPass, Ends, Closed, Unframed, Invalid, Salvage, behind, IsSoundFrom, End, Pass, IsReadAs, Newer, Older, Neither, IsSoundOf, Blank, Long}
+use Rattle.sound_frames.specs.Sound.{behind_gate, next_gate, gate_damage, header_damage, IsSound, MayPass, Ends, Closed, Unframed, Invalid, SoundPart, behind, IsSoundFrom, End, Pass, IsReadAs, Newer, Older, Neither, IsSoundOf, Blank, Long}
 
 module _ (version : ℕ) (log : List ℕ) where
   frame_once : (place : ℕ) (before es fs : List Entry) → IsSound version log place before es → IsSound version log place before fs → es ≡ fs
@@ -29,7 +29,7 @@ module _ (version : ℕ) (log : List ℕ) where
   ends_once place before one other (Invalid unshut has none is) (Unframed also lacks js) = absurd (true≢false (sym has ∙ lacks))
   ends_once place before one other (Invalid unshut has none is) (Invalid also too lacks js) = is ∙ sym js
 
-from_once : (version : ℕ) (log : List ℕ) {place : ℕ} {before : List Entry} {s t : Salvage} → IsSoundFrom version log place before s → IsSoundFrom version log place before t → s ≡ t
+from_once : (version : ℕ) (log : List ℕ) {place : ℕ} {before : List Entry} {s t : SoundPart} → IsSoundFrom version log place before s → IsSoundFrom version log place before t → s ≡ t
 from_once version log (End place before s one ends is) (End _ _ t other also js) =
     let same : one ≡ other = ends_once version log place before one other ends also in
     is ∙ (λ i. record { entries = []; damages = same i; end = place }) ∙ sym js
@@ -53,7 +53,7 @@ reads_once log v w (Neither none lacks is) (Newer fs t js) = absurd (none fs t)
 reads_once log v w (Neither none lacks is) (Older fs nor t js) = absurd (lacks fs t)
 reads_once log v w (Neither none lacks is) (Neither nor neither js) = is ∙ sym js
 
-pub sound_once : (log : List ℕ) (s t : Salvage) → IsSoundOf log s → IsSoundOf log t → s ≡ t
+pub sound_once : (log : List ℕ) (s t : SoundPart) → IsSoundOf log s → IsSoundOf log t → s ≡ t
 sound_once log s t (Blank short is) (Blank also js) = is ∙ sym js
 sound_once log s t (Blank short is) (Long v more long read from js) = absurd (omega (arith, short, long))
 sound_once log s t (Long v more long read from is) (Blank short js) = absurd (omega (arith, short, long))

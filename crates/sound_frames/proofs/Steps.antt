@@ -1,54 +1,34 @@
 -- How a step ends.
-use Rattle.std.proofs.Common.{◌≡◌, ◌≢◌, ◌∙◌, ℕ, ◌+◌, ◌-◌, ◌<◌, ◌≤◌, Bool, true, false, true≢false, nat_le, nat_lt, List, [], ◌∷◌, ◌++◌, length, Option, refl, sym, ap, subst, arith}
+use Rattle.std.proofs.Common.{◌≡◌, ◌≢◌, ◌∙◌, ℕ, ◌<◌, Bool, true, false, true≢false, List, [], ◌∷◌, ◌++◌, length, Option, refl, sym, ap, subst}
 use Rattle.std.specs.Prelude.{Vec}
 use Rattle.std.specs.declared.alloc.Global.{Global}
-use Rattle.std.proofs.lemmas.Bool.Decides.{nat_tests}
 use Rattle.marc_types.specs.declared.entry.Entry.{Entry}
 use Rattle.entry_history.specs.declared.extent.Extent.{Extent}
 use Rattle.sound_frames.specs.declared.damage.Damage.{Damage}
 use Rattle.sound_frames.specs.declared.damage.Reason.TheVariants.{Torn, Lost, NoFrame as Unframed_reason, NotValid as Invalid_reason}
 use Rattle.sound_frames.specs.declared.looking.Ahead.{Ahead}
 use Rattle.sound_frames.specs.declared.looking.Ahead.TheVariants.{NoFrame, NotValid, Sound}
-use Rattle.commit_journal.specs.declared.format.TheConstants.{FRAME_ROOM}
+use Rattle.commit_journal.specs.declared.tail.Tail.{Tail}
+use Rattle.commit_journal.specs.declared.tail.Tail.TheVariants as tail
+use Rattle.commit_journal.specs.Tails.{tail_behind}
 use Rattle.commit_journal.specs.Log.{payload_of}
 use Rattle.entry_history.proofs.Histories.{holds_once}
-use Rattle.sound_frames.specs.Sound.{is_closed_gate, behind_gate, next_gate, gate_damage, torn_damage, IsSound, HasNone, HasNoTwo, MayPass, Ends, Closed, Unframed, Invalid}
+use Rattle.sound_frames.specs.Sound.{is_closed_gate, behind_gate, next_gate, gate_damage, tail_damage, IsSound, HasNone, HasNoTwo, MayPass, Ends, Closed, Unframed, Invalid}
 use Rattle.sound_frames.specs.Looking.{Sees, IsSoundAhead, CanPassNot, as_list, HasEnded, HasPassed}
 
-module _ (log : List ℕ) (place : ℕ) where
-  -- some bytes stand behind the gate
-  more_behind : place + 1 < length log → nat_lt (place + 1) (length log) ≡ true
-  more_behind more = grind (arith, nat_tests)
-
-  torn_is : place + 1 < length log → length log - place - 1 ≤ FRAME_ROOM → torn_damage log place ≡ record { place = place; reason = Torn } ∷ []
-  torn_is more few =
-      let within : length log ≤ place + 1 + FRAME_ROOM = omega (arith, few) in
-      let test : nat_le (length log) (place + 1 + FRAME_ROOM) ≡ true = grind (arith, nat_tests) in
-      rw (more_behind more, test) refl
-
-  lost_is : place + 1 < length log → FRAME_ROOM < length log - place - 1 → torn_damage log place ≡ record { place = place; reason = Lost } ∷ []
-  lost_is more many =
-      let beyond : place + 1 + FRAME_ROOM < length log = omega (arith, many) in
-      let test : nat_le (length log) (place + 1 + FRAME_ROOM) ≡ false = grind (arith, nat_tests) in
-      rw (more_behind more, test) refl
-
-  whole_is : length log ≤ place + 1 → torn_damage log place ≡ []
-  whole_is none = let test : nat_lt (place + 1) (length log) ≡ false = grind (arith, nat_tests) in rw test refl
-
 module _ (version : ℕ) (log : List ℕ) (place : ℕ) (before : List Entry) (ahead : Ahead) (b : Bool) (is : b ≡ is_closed_gate log place) (shut : b ≡ true)
-    (cannot : CanPassNot version log place before ahead) where
-  pub ends_torn : (damages : List Damage) → (length log ≤ place + 1 → ⊥) → (FRAME_ROOM < length log - place - 1 → ⊥)
-      → damages ≡ record { place = place; reason = Torn } ∷ [] → Ends version log place before damages
-  ends_torn damages more few is_now =
-      Closed (sym is ∙ shut) (cannot.shut (sym is ∙ shut)) (is_now ∙ sym (torn_is log place (omega (arith, more)) (omega (arith, few))))
+    (cannot : CanPassNot version log place before ahead) (t : Tail) (tail_is : t ≡ tail_behind place (length log)) where
+  ends_with : (damages : List Damage) → damages ≡ tail_damage place t → Ends version log place before damages
+  ends_with damages is_now = Closed (sym is ∙ shut) (cannot.shut (sym is ∙ shut)) (is_now ∙ ap (tail_damage place) tail_is)
 
-  pub ends_lost : (damages : List Damage) → (length log ≤ place + 1 → ⊥) → FRAME_ROOM < length log - place - 1
-      → damages ≡ record { place = place; reason = Lost } ∷ [] → Ends version log place before damages
-  ends_lost damages more many is_now =
-      Closed (sym is ∙ shut) (cannot.shut (sym is ∙ shut)) (is_now ∙ sym (lost_is log place (omega (arith, more)) many))
+  pub ends_torn : (damages : List Damage) → t ≡ tail.Torn → damages ≡ record { place = place; reason = Torn } ∷ [] → Ends version log place before damages
+  ends_torn damages torn is_now = ends_with damages (is_now ∙ ap (tail_damage place) (sym torn))
 
-  pub ends_whole : length log ≤ place + 1 → Ends version log place before []
-  ends_whole none = Closed (sym is ∙ shut) (cannot.shut (sym is ∙ shut)) (sym (whole_is log place none))
+  pub ends_lost : (damages : List Damage) → t ≡ tail.More → damages ≡ record { place = place; reason = Lost } ∷ [] → Ends version log place before damages
+  ends_lost damages more is_now = ends_with damages (is_now ∙ ap (tail_damage place) (sym more))
+
+  pub ends_whole : t ≡ tail.Nothing → Ends version log place before []
+  ends_whole none = ends_with [] (ap (tail_damage place) (sym none))
 
 pub ends_unframed : (version : ℕ) (log : List ℕ) (place : ℕ) (before : List Entry) (extent : Extent) (damages : List Damage) (b : Bool) → b ≡ is_closed_gate log place → b ≡ false
     → Sees version log place before NoFrame extent → damages ≡ record { place = place; reason = Unframed_reason } ∷ [] → Ends version log place before damages

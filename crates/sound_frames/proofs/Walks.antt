@@ -7,14 +7,14 @@ use Rattle.commit_journal.specs.Log.{header_fault, version_of_header}
 use Rattle.entry_history.specs.declared.extent.Extent.{Extent}
 use Rattle.sound_frames.specs.declared.damage.Damage.{Damage}
 use Rattle.sound_frames.specs.declared.looking.Ahead.{Ahead}
-use Rattle.sound_frames.specs.Sound.{next_gate, gate_damage, IsSound, MayPass, Ends, Salvage, behind, IsSoundFrom, End, Pass, IsReadAs, wrong_header, header_damage, IsSoundOf, Blank, Long}
+use Rattle.sound_frames.specs.Sound.{next_gate, gate_damage, IsSound, MayPass, Ends, SoundPart, behind, IsSoundFrom, End, Pass, IsReadAs, wrong_header, header_damage, has_closed_gate, wrong_blank, blank_damage, IsSoundOf, Blank, Long}
 use Rattle.sound_frames.specs.Looking.{as_list, Sees, HasPassed, HasEnded, HasReadOn}
 
 -- reading has come to the gate at that place, behind these entries and damages: what is sound from there on is sound behind them
 pub record LeadsTo (version : ℕ) (log : List ℕ) (damages : List Damage) (place : ℕ) (entries : List Entry) (damages_now : List Damage) : Type 0 where
   pub so_far : List Damage
   pub now_is : damages_now ≡ damages ++ so_far
-  pub goes_on : (more : Salvage) → IsSoundFrom version log place entries more → IsSoundFrom version log FIRST_GATE [] (behind entries so_far more)
+  pub goes_on : (more : SoundPart) → IsSoundFrom version log place entries more → IsSoundFrom version log FIRST_GATE [] (behind entries so_far more)
 
 pub begun : (version : ℕ) (log : List ℕ) (damages : List Damage) → LeadsTo version log damages FIRST_GATE [] damages
 begun version log damages = record { so_far = []; now_is = sym (append-nil damages); goes_on = λ more sound. sound }
@@ -30,10 +30,10 @@ module _ (version : ℕ) (log : List ℕ) (damages : List Damage) (place : ℕ) 
         (l.goes_on (behind entries (gate_damage log place) more) (Pass place before (behind entries (gate_damage log place) more) entries more sound may (moved more from) refl));
   }
     where
-      moved : (more : Salvage) → IsSoundFrom version log next now more → IsSoundFrom version log (next_gate log place) (before ++ entries) more
+      moved : (more : SoundPart) → IsSoundFrom version log next now more → IsSoundFrom version log (next_gate log place) (before ++ entries) more
       moved more from = subst (λ p. IsSoundFrom version log p (before ++ entries) more) next_is (subst (λ es. IsSoundFrom version log next es more) now_is from)
 
-      regroup : (more : Salvage) → behind before l.so_far (behind entries (gate_damage log place) more) ≡ behind now (l.so_far ++ gate_damage log place) more
+      regroup : (more : SoundPart) → behind before l.so_far (behind entries (gate_damage log place) more) ≡ behind now (l.so_far ++ gate_damage log place) more
       regroup more =
           let first : before ++ (entries ++ more.entries) ≡ now ++ more.entries = sym (append_assoc before entries more.entries) ∙ ap (λ es. es ++ more.entries) (sym now_is) in
           let second : l.so_far ++ (gate_damage log place ++ more.damages) ≡ (l.so_far ++ gate_damage log place) ++ more.damages = sym (append_assoc l.so_far (gate_damage log place) more.damages) in
@@ -99,8 +99,8 @@ sound_long log version named wrong is_named first entries damages end long read 
     let all : damages ≡ header_damage version log ++ on.more = on.now_is ∙ ap (λ d. d ++ on.more) header in
     Long version (record { entries = entries; damages = on.more; end = end }) long read on.found (λ i. record { entries = entries; damages = all i; end = end })
 
-pub sound_blank : (log : List ℕ) (wrong : Option ℕ) (damages : List Damage) (entries : List Entry) → (BLANK_LENGTH < length log → ⊥) → wrong ≡ header_fault log
-    → damages ≡ wrong_header wrong true → entries ≡ [] → IsSoundOf log (record { entries = entries; damages = damages; end = FIRST_GATE })
-sound_blank log wrong damages entries short wrong_is damages_are none =
-    let all : damages ≡ wrong_header (header_fault log) true = damages_are ∙ ap (λ w. wrong_header w true) wrong_is in
+pub sound_blank : (log : List ℕ) (wrong : Option ℕ) (closed : Bool) (damages : List Damage) (entries : List Entry) → (BLANK_LENGTH < length log → ⊥) → wrong ≡ header_fault log
+    → closed ≡ has_closed_gate log → damages ≡ wrong_blank wrong closed → entries ≡ [] → IsSoundOf log (record { entries = entries; damages = damages; end = FIRST_GATE })
+sound_blank log wrong closed damages entries short wrong_is closed_is damages_are none =
+    let all : damages ≡ blank_damage log = damages_are ∙ (λ i. wrong_blank (wrong_is i) (closed_is i)) in
     Blank (omega (arith, short)) (λ i. record { entries = none i; damages = all i; end = FIRST_GATE })

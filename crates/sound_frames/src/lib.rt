@@ -2,7 +2,7 @@
 #![tactic(auto)]
 
 pub use damage::{Damage, Reason};
-pub use sound::{Sound, find_sound};
+pub use sound::{SoundPart, find_sound};
 
 mod damage;
 mod found;

@@ -12,7 +12,9 @@ use crate::Damage;
 use crate::found::Found;
 use crate::looking::look;
 use crate::stepping::{Stepped, step};
-use crate::version::{header_damage, named_version, version_of, wrong_place};
+use crate::version::{
+    blank_damage, has_closed_gate, header_damage, named_version, version_of, wrong_place,
+};
 use commit_journal::{BLANK_LENGTH, FIRST_GATE};
 use entry_history::{EntryPayload, HistoryCounter};
 use marc_types::{Limits, NoMemory};
@@ -20,7 +22,7 @@ use std::alloc::Global;
 
 /// What is sound of a log.
 #[derive(Drop)]
-pub struct Sound {
+pub struct SoundPart {
     /// Its entries.
     pub entries: Vec<EntryPayload>,
     /// Its damages, in their order.
@@ -63,7 +65,7 @@ fn read_on(
 
 /// What is sound of a log that isn't blank.
 #[tactic(auto, using(crate::proofs::Walks::sound_long))]
-fn find_long(alloc: Global, log: &[u8], limits: Limits) -> Result<Sound, NoMemory>
+fn find_long(alloc: Global, log: &[u8], limits: Limits) -> Result<SoundPart, NoMemory>
     requires { BLANK_LENGTH < length log.now }
     ensures sound { IfOk result (λ s. IsSoundOf log.now (record { entries = s.entries.items; damages = s.damages.items; end = s.end })) }
     ensures fits { IfOk result (λ s. IsTrue s.fits ↔ IsWithin limits s.entries.items) }
@@ -76,7 +78,7 @@ fn find_long(alloc: Global, log: &[u8], limits: Limits) -> Result<Sound, NoMemor
     let mut counter = HistoryCounter::new(version);
     let end = read_on(alloc, log, &mut counter, &mut found)?;
     let fits = found.is_within(limits);
-    Ok(Sound {
+    Ok(SoundPart {
         entries: found.entries,
         damages: found.damages,
         end: end as u64,
@@ -86,7 +88,7 @@ fn find_long(alloc: Global, log: &[u8], limits: Limits) -> Result<Sound, NoMemor
 
 /// What is sound of a log: the entries of its sound frames, its damages, and where reading ended. It is looked at in memory.
 #[tactic(auto, using(crate::proofs::Walks::sound_blank))]
-pub fn find_sound(alloc: Global, log: &[u8], limits: Limits) -> Result<Sound, NoMemory>
+pub fn find_sound(alloc: Global, log: &[u8], limits: Limits) -> Result<SoundPart, NoMemory>
     ensures sound { IfOk result (λ s. IsSoundOf log.now (record { entries = s.entries.items; damages = s.damages.items; end = s.end })) }
     ensures fits { IfOk result (λ s. IsTrue s.fits ↔ IsWithin limits s.entries.items) }
 {
@@ -94,9 +96,9 @@ pub fn find_sound(alloc: Global, log: &[u8], limits: Limits) -> Result<Sound, No
         return find_long(alloc, log, limits);
     }
     let mut found = Found::new(alloc, limits);
-    found.note(header_damage(wrong_place(log), true))?;
+    found.note(blank_damage(wrong_place(log), has_closed_gate(log)))?;
     let fits = found.is_within(limits);
-    Ok(Sound {
+    Ok(SoundPart {
         entries: found.entries,
         damages: found.damages,
         end: FIRST_GATE,

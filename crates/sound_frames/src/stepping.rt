@@ -10,7 +10,7 @@ use crate::found::Found;
 use crate::frame::{is_closed_gate, next_gate};
 use crate::looking::{Ahead, look};
 use crate::{Damage, Reason};
-use commit_journal::{HEAD_BYTES, LARGEST_PAYLOAD};
+use commit_journal::{Tail, tail_behind};
 use entry_history::HistoryCounter;
 use marc_types::NoMemory;
 use std::alloc::Global;
@@ -42,13 +42,11 @@ fn end_damage(log: &[u8], place: usize, ahead: &Ahead) -> Option<Damage>
         → CanPassNot version log.now place before ahead.now → Ends version log.now place before (as_list result) }
 {
     if is_closed_gate(log, place) {
-        if place + 1 >= log.len() {
-            return None;
-        }
-        if log.len() - place - 1 > HEAD_BYTES + LARGEST_PAYLOAD {
-            return damage_at(place, Reason::Lost);
-        }
-        return damage_at(place, Reason::Torn);
+        return match tail_behind(place as u64, log.len() as u64) {
+            Tail::Nothing => None,
+            Tail::Torn => damage_at(place, Reason::Torn),
+            Tail::More => damage_at(place, Reason::Lost),
+        };
     }
     match ahead {
         Ahead::NoFrame => damage_at(place, Reason::NoFrame),

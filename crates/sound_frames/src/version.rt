@@ -1,27 +1,19 @@
 //! The version as which a log is read, and the damage of its header.
 ghost use Rattle.std.specs.Prelude.{◌≡◌, ◌<◌, ◌++◌, length, take, drop, IfOk};
 ghost use Rattle.entry_history.specs.Readers.{IsVersion};
-ghost use Rattle.commit_journal.specs.declared.format.TheConstants.{BLANK_LENGTH};
+ghost use Rattle.commit_journal.specs.declared.format.TheConstants.{BLANK_LENGTH, HEADER_2};
 ghost use Rattle.commit_journal.specs.Log.{header_fault, version_of_header};
-ghost use Rattle.sound_frames.specs.Sound.{IsReadAs, wrong_header};
-ghost use Rattle.sound_frames.specs.declared.version.TheConstants.{HEADER};
+ghost use Rattle.sound_frames.specs.Sound.{IsReadAs, has_closed_gate, wrong_blank, wrong_header};
 ghost use Rattle.sound_frames.specs.Looking.{as_list, BeginsAs};
 
 use crate::looking::look;
 use crate::{Damage, Reason};
-use commit_journal::{FIRST_GATE, HEADER_BYTES, header_version};
+use commit_journal::{
+    CLOSED_GATE, DIGIT_1, FIRST_GATE, HEADER_2, HEADER_BYTES, VERSION_PLACE, header_version,
+};
 use entry_history::HistoryCounter;
 use marc_types::NoMemory;
 use std::alloc::Global;
-
-/// Where a header says its version.
-const VERSION_PLACE: usize = 14;
-
-/// What a header of version 1 says there.
-const DIGIT_1: u8 = b'1';
-
-/// A right header.
-const HEADER: [u8; 16] = *b"UNIONCAT JNL 02\n";
 
 /// The version that a header names, right or not.
 #[tactic(auto, unfolding(commit_journal::specs::Log::version_of_header))]
@@ -61,10 +53,10 @@ pub(crate) fn version_of(alloc: Global, log: &[u8]) -> Result<u8, NoMemory>
 
 /// The first bytes of a log, up to a header's length, and those of a right header in place of what is missing.
 fn filled_header(log: &[u8]) -> [u8; 16]
-    ensures { result ≡ take 16 log.now ++ drop (length (take 16 log.now)) HEADER }
+    ensures { result ≡ take 16 log.now ++ drop (length (take 16 log.now)) HEADER_2 }
 {
     let count = log.len().min(HEADER_BYTES);
-    let mut header = HEADER;
+    let mut header = HEADER_2;
     header[..count].copy_from_slice(&log[..count]);
     header
 }
@@ -77,6 +69,30 @@ pub(crate) fn wrong_place(log: &[u8]) -> Option<u64>
     match header_version(&filled_header(log)) {
         Ok(_) => None,
         Err(place) => Some(place),
+    }
+}
+
+/// Whether a closed gate stands behind a header.
+pub(crate) fn has_closed_gate(log: &[u8]) -> bool
+    ensures { result ≡ has_closed_gate log.now }
+{
+    log.len() > HEADER_BYTES && log[HEADER_BYTES] == CLOSED_GATE
+}
+
+/// The damage of a blank log with its first wrong byte, and whether a closed gate stands behind its header.
+pub(crate) fn blank_damage(wrong: Option<u64>, is_closed: bool) -> Option<Damage>
+    ensures { as_list result ≡ wrong_blank wrong is_closed }
+{
+    match wrong {
+        Some(place) => Some(Damage {
+            place,
+            reason: Reason::WrongHeader,
+        }),
+        None if is_closed => None,
+        None => Some(Damage {
+            place: FIRST_GATE,
+            reason: Reason::NoFrame,
+        }),
     }
 }
 

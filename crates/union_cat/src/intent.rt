@@ -1,5 +1,6 @@
 //! What a command is about to do with its files, as the room is told before anything is opened.
 use command_words::{AloneRequest, Look, Outputs, Request, Unasked};
+use commit_journal::LARGEST_APPEND;
 use outside_real::{Counts, Intent};
 use std::alloc::Global;
 use std::io;
@@ -12,6 +13,7 @@ pub fn intent_of(
 ) -> io::Result<Intent> {
     let mut intent = Intent::none(alloc);
     intent.is_terminal = is_terminal;
+    intent.most_behind = LARGEST_APPEND as u64;
     if let Ok(asked) = asked {
         for output in outputs_of(asked) {
             if let Some(output) = output {
@@ -35,6 +37,9 @@ fn tell_of(alloc: Global, asked: &AloneRequest<'_>, intent: &mut Intent) -> io::
     }
     if let Some(file) = judged_of(asked) {
         intent.judged = Some(String::from_str(alloc, file)?);
+    }
+    if let Some(point) = points_of(asked) {
+        intent.points = Some(String::from_str(alloc, point)?);
     }
     intent.has_reading = has_reading(asked);
     intent.looks = looks(asked);
@@ -81,6 +86,16 @@ fn journal_of<'a>(asked: &AloneRequest<'a>) -> Option<&'a str> {
         | AloneRequest::Quick { journal, .. }
         | AloneRequest::QuickReport { journal, .. } => Some(*journal),
         AloneRequest::Holdings(wanted) => Some(wanted.journal),
+        _ => None,
+    }
+}
+
+/// The log of checkpoints: one append to it may be of any length.
+fn points_of<'a>(asked: &AloneRequest<'a>) -> Option<&'a str> {
+    match asked {
+        AloneRequest::Checkpoint { point, .. }
+        | AloneRequest::Quick { point, .. }
+        | AloneRequest::QuickReport { point, .. } => Some(*point),
         _ => None,
     }
 }

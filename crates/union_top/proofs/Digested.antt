@@ -7,7 +7,7 @@ use Rattle.console_lines.specs.declared.end.End.TheVariants.{Done, Refused, Unwr
 use Rattle.console_lines.specs.declared.fault.Fault.TheVariants as fault
 use Rattle.durable_catalogue.specs.Logs.{IsLogOf}
 use Rattle.journal_verification.specs.Contents.{IsVerified}
-use Rattle.journal_verification.specs.Owning.{EndsVerifyingDigest, IsToldDigest, IsOfOther, VerifiesDigest}
+use Rattle.journal_verification.specs.Comparing.{EndsVerifyingDigest, IsToldDigest, HasOtherDigest, VerifiesDigest}
 use Rattle.journal_verification.specs.declared.verified.Verified.{Verified}
 use Rattle.union_top.specs.Misfits.{IsNoHistory, IsStatus}
 use Rattle.union_top.proofs.Looking.{with_bytes}
@@ -40,5 +40,5 @@ none_digested o journal count digits v tells no_input none =
     no told.is.history ∣ has_one bytes told.verified told.is ∣₁)
     no_input
     (λ is.
-    let of_other : IsOfOther count digits bytes = subst (λ file. IsSomeAnd file (IsOfOther count digits)) there (v.other is tells) in
+    let of_other : HasOtherDigest count digits bytes = subst (λ file. IsSomeAnd file (HasOtherDigest count digits)) there (v.other is tells) in
     no of_other.is.history ∣ has_one bytes of_other.verified of_other.is ∣₁))

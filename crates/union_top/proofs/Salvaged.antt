@@ -16,7 +16,7 @@ use Rattle.migrate_command.specs.Migrations.{Begins, IsFit, IsUnmigrated}
 use Rattle.migrate_command.specs.declared.fault.MigrateFault.{MigrateFault}
 use Rattle.migrate_command.specs.declared.fault.MigrateFault.TheVariants as migrating
 use Rattle.migrate_command.specs.Told.{fault_of_migrating}
-use Rattle.sound_frames.specs.Sound.{Salvage, IsSoundOf}
+use Rattle.sound_frames.specs.Sound.{SoundPart, IsSoundOf}
 use Rattle.sound_frames.proofs.Once.{sound_once}
 use Rattle.salvage_command.specs.Salvages.{EndsSalvaging, Salvages, WhyNot, Nothing, TooMuch, NotTaken, WasFit}
 use Rattle.union_top.specs.Fits.{FitsSalvage}
@@ -57,7 +57,7 @@ module _ (o : Outcome) (journal into : List ℕ) (s : Salvages journal into o) (
   remains : (why : Fault) → o.end ≡ Told why → why ≡ fault.Memory
   remains = by_fault o.end (λ why. why ≡ fault.Memory) no_input refl (λ why is input memory.
       let device : why ≡ fault.Device → ⊥ = λ failed. no_device (is ∙ ap Told failed) in
-      let so = subst (λ file. IsSomeAnd file (λ log. (all : Salvage) × IsSoundOf log all × WhyNot o.old o.new all into why)) f.there
+      let so = subst (λ file. IsSomeAnd file (λ log. (all : SoundPart) × IsSoundOf log all × WhyNot o.old o.new all into why)) f.there
       (s.so why is input memory f.tells) in
       taken why device (subst (λ all. WhyNot o.old o.new all into why) (sound_once f.bytes so.0 f.all so.1 f.sound) so.2))
 
@@ -85,7 +85,7 @@ module _ (o : Outcome) (journal into : List ℕ) (s : Salvages journal into o) (
 
   none_brought : TellsNoFault o.end → ⊥
   none_brought untold =
-      let so = subst (λ file. IsSomeAnd file (λ log. (all : Salvage) × IsSoundOf log all × WasFit o.old all into)) there (s.fit untold tells) in
+      let so = subst (λ file. IsSomeAnd file (λ log. (all : SoundPart) × IsSoundOf log all × WasFit o.old all into)) there (s.fit untold tells) in
       let fit = subst (λ all. WasFit o.old all into) (sound_once bytes so.0 none.all so.1 none.sound) so.2 in
       fit.worth.something none.place none.nothing
 
@@ -93,7 +93,7 @@ module _ (o : Outcome) (journal into : List ℕ) (s : Salvages journal into o) (
   nothing_status =
       untold_status o.end s.ends none_brought
       (by_fault o.end (λ why. IsStatus 6 (fault_status why)) no_input (inr refl) (λ why is input memory.
-      let so = subst (λ file. IsSomeAnd file (λ log. (all : Salvage) × IsSoundOf log all × WhyNot o.old o.new all into why)) there (s.so why is input memory tells) in
+      let so = subst (λ file. IsSomeAnd file (λ log. (all : SoundPart) × IsSoundOf log all × WhyNot o.old o.new all into why)) there (s.so why is input memory tells) in
       not_brought why (subst (λ all. WhyNot o.old o.new all into why) (sound_once bytes so.0 none.all so.1 none.sound) so.2)))
 
 pub none_salvaged : (o : Outcome) (journal into : List ℕ) → Salvages journal into o → o.old.tells ≡ true → (o.end ≡ Told fault.Input → ⊥)

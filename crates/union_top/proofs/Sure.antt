@@ -39,7 +39,7 @@ use Rattle.union_top.proofs.Unheld.{unheld_well}
 use Rattle.journal_verification.specs.Contents.{IsVerified}
 use Rattle.journal_verification.specs.Verifying.{Verifies, IsToldInPart, verified_lines}
 use Rattle.journal_verification.specs.Digests.{digest_line}
-use Rattle.journal_verification.specs.Owning.{VerifiesDigest, IsToldDigest}
+use Rattle.journal_verification.specs.Comparing.{VerifiesDigest, IsToldDigest}
 use Rattle.salvage_command.specs.Salvages.{Salvages, IsSalvageOf}
 use Rattle.salvage_command.specs.Told.{salvaged_lines}
 use Rattle.catalogue_rules.specs.Settle.{state_of}

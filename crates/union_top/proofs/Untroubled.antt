@@ -12,7 +12,7 @@ use Rattle.durable_catalogue.specs.Openings.{IsUnopened}
 use Rattle.journal_files.specs.Journals.{journal_limits}
 use Rattle.entry_history.specs.Frames.{IsNoJournal}
 use Rattle.journal_verification.specs.Verifying.{EndsVerifying, Verifies}
-use Rattle.journal_verification.specs.Owning.{EndsVerifyingDigest, VerifiesDigest, IsOfOther}
+use Rattle.journal_verification.specs.Comparing.{EndsVerifyingDigest, VerifiesDigest, HasOtherDigest}
 use Rattle.program_help.specs.Telling.{EndsTelling, Tells}
 use Rattle.union_top.specs.Fits.{FitsVerify, FitsVerifyDigest}
 use Rattle.union_top.proofs.Unopened.{no_journal}
@@ -82,8 +82,8 @@ module _ (o : Outcome) where
   digest_well journal count digits v f no_console no_input =
       digested_well o.end v.ends no_console no_input (λ place is. is_journal journal f.verify place (v.none place is f.verify.tells))
       (λ is.
-      let of_other : IsOfOther count digits f.verify.bytes =
-      subst (λ file. IsSomeAnd file (IsOfOther count digits)) f.verify.there (v.other is f.verify.tells) in
+      let of_other : HasOtherDigest count digits f.verify.bytes =
+      subst (λ file. IsSomeAnd file (HasOtherDigest count digits)) f.verify.there (v.other is f.verify.tells) in
       of_other.other f.own)
 
   pub tells_well : (text : List ℕ) → Tells text o → (o.end ≡ console_unwritten → ⊥) → IsAllDone o.end ⊎ (o.end ≡ Told fault.Memory)

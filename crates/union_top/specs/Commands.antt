@@ -15,7 +15,7 @@ use Rattle.plain_commands.specs.GivingBack.{GivesBack}
 use Rattle.reading_commands.specs.Unheld.{AttachesUnheld}
 use Rattle.reading_commands.specs.Looking.{LooksInto, look_due}
 use Rattle.journal_verification.specs.Verifying.{Verifies}
-use Rattle.journal_verification.specs.Owning.{VerifiesDigest}
+use Rattle.journal_verification.specs.Comparing.{VerifiesDigest}
 use Rattle.archive_commands.specs.Telling.{TellsMatches}
 use Rattle.archive_commands.specs.Telling.{TellsHeadings}
 use Rattle.holdings_command.specs.Attaching.{AttachesHoldings}

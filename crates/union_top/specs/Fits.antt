@@ -15,7 +15,7 @@ use Rattle.durable_catalogue.specs.Logs.{HasHistory}
 use Rattle.journal_files.specs.Journals.{journal_limits, log_bytes, HasFittingHistory}
 use Rattle.journal_verification.specs.Digests.{IsDigestOf}
 use Rattle.migrate_command.specs.Migrations.{IsFit}
-use Rattle.sound_frames.specs.Sound.{Salvage, IsSoundOf}
+use Rattle.sound_frames.specs.Sound.{SoundPart, IsSoundOf}
 use Rattle.salvage_command.specs.Salvages.{WasFit}
 use Rattle.checkpoint.specs.declared.point.Point.{Point}
 use Rattle.restoring.specs.Resuming.{IsOfFront}
@@ -106,7 +106,7 @@ pub record FitsSalvage (room : RoomView) (journal into : List ℕ) : Type 0 wher
   pub tells : room.tells ≡ true
   pub bytes : List ℕ
   pub there : room.file journal ≡ Some bytes
-  pub all : Salvage
+  pub all : SoundPart
   pub sound : IsSoundOf bytes all
   pub fit : WasFit room all into
 

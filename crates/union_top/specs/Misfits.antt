@@ -10,7 +10,7 @@ use Rattle.entry_record.specs.History.{IsMerged, IsWithin}
 use Rattle.durable_catalogue.specs.Logs.{HasHistory}
 use Rattle.journal_files.specs.Journals.{journal_limits, log_bytes, HasFittingHistory}
 use Rattle.loading_commands.specs.Merged.{AreJudged}
-use Rattle.sound_frames.specs.Sound.{Salvage, IsSoundOf, IsNothing}
+use Rattle.sound_frames.specs.Sound.{SoundPart, IsSoundOf, IsNothing}
 use Rattle.checkpoint.specs.declared.point.Point.{Point}
 use Rattle.restoring.specs.Writing.{HasLast}
 
@@ -20,7 +20,7 @@ IsNoHistory log = (entries : List Entry) → HasHistory entries log → ⊥
 
 -- nothing of a damaged log is sound
 pub record HasNothingSound (log : List ℕ) : Type 0 where
-  pub all : Salvage
+  pub all : SoundPart
   pub sound : IsSoundOf log all
   pub place : ℕ
   pub nothing : IsNothing all place

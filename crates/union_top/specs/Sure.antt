@@ -24,7 +24,7 @@ use Rattle.journal_verification.specs.Contents.{IsVerified}
 use Rattle.journal_verification.specs.declared.verified.Verified.{Verified}
 use Rattle.journal_verification.specs.Verifying.{verified_lines}
 use Rattle.journal_verification.specs.Digests.{IsDigestOf, digest_line}
-use Rattle.sound_frames.specs.Sound.{Salvage, IsSoundOf}
+use Rattle.sound_frames.specs.Sound.{SoundPart, IsSoundOf}
 use Rattle.salvage_command.specs.Told.{salvaged_lines}
 use Rattle.holdings.specs.declared.holding.Holding.{Holding}
 use Rattle.file_holdings.specs.Files.{AreHoldings}
@@ -197,9 +197,9 @@ pub record IsSureMigrate (from into : List ℕ) (a : Around) : Type 0 where
 -- damages
 pub record IsSureSalvage (journal into : List ℕ) (a : Around) : Type 0 where
   pub input : a.old.promise journal ≡ ReadsAlways
-  pub new_log : (bytes : List ℕ) (all : Salvage) (entries more : List Entry) → a.old.file journal ≡ Some bytes → IsSoundOf bytes all
+  pub new_log : (bytes : List ℕ) (all : SoundPart) (entries more : List Entry) → a.old.file journal ≡ Some bytes → IsSoundOf bytes all
       → HasHistory entries (log_bytes a.old into) → entries ++ more ≡ all.entries → HoldsLog a.old into (framed_lengths more)
-  pub console : (bytes : List ℕ) (all : Salvage) → a.old.file journal ≡ Some bytes → IsSoundOf bytes all → HoldsText a (salvaged_lines bytes all)
+  pub console : (bytes : List ℕ) (all : SoundPart) → a.old.file journal ≡ Some bytes → IsSoundOf bytes all → HoldsText a (salvaged_lines bytes all)
 
 -- both logs are only read, what is due of them is written, and the console is told of how many entries the checkpoint spared
 pub record IsSureQuick (journal point out : List ℕ) (a : Around) : Type 0 where

@@ -1,5 +1,5 @@
 //! Some words, carried out in three calls: `begin` and `end` have the room, and `load` between them, which may wait, has none.
-ghost use Rattle.std.specs.Prelude.{◌≡◌, ◌↔◌, ◌⊎◌, ◌∷◌, ℕ, ◌≤◌, List, Some, None, [], IfOk, IfErr};
+ghost use Rattle.std.specs.Prelude.{◌≡◌, ◌↔◌, ◌⊎◌, ◌∷◌, ℕ, ◌≤◌, List, Some, None, [], true, IfOk, IfErr};
 ghost use Rattle.outside.specs.Room.{SameBut};
 ghost use Rattle.command_words.specs.Command.{AreNames, Command, command_of, names_of};
 ghost use Rattle.command_words.specs.Asked.{AsksFor, IsUnasked};
@@ -9,7 +9,8 @@ ghost use Rattle.console_lines.specs.Faults.{IsFaultTold, fault_line};
 ghost use Rattle.durable_catalogue.specs.Views.{durable_view};
 ghost use Rattle.loading_commands.specs.Outcomes.{HasBegun, IsWaiting, HasRead};
 ghost use Rattle.union_top.specs.Commands.{CarriesOut, EndsWith};
-ghost use Rattle.union_top.specs.Complete.{around, IsUnhindered};
+ghost use Rattle.union_top.specs.Complete.{around, CountsStayed, IsUnhindered};
+ghost use Rattle.union_top.specs.Misfits.{RefusesMisfits};
 ghost use Rattle.union_top.specs.Sure.{IsSure};
 ghost use Rattle.union_top.specs.Carried.{AreCarriedOut, unasked_fault};
 ghost use Rattle.browsing_commands.specs.Browsing.{HasPaged};
@@ -260,6 +261,11 @@ pub fn run<H: Threads + Wait + Sync, R: Room, G: Gate + Sync>(
     ensures sure { (command : Command) → command_of words.now ≡ Some command →
         IsSure words.now command (around R.seen R.Out.written R.Out.faults room.old room.new console.old console.new) →
         (result ≤ 1) ⊎ (result ≡ 8) }
+
+    // Where no count of faults rose, a journal that can't be used is refused with its status.
+    ensures misfits { (command : Command) → command_of words.now ≡ Some command → (R.seen room.old).tells ≡ true →
+        CountsStayed words.now command (around R.seen R.Out.written R.Out.faults room.old room.new console.old console.new) →
+        RefusesMisfits words.now command (R.seen room.old) result }
 {
     carry_through(rt, alloc, words, room, console, gate)
 }

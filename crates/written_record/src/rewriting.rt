@@ -5,18 +5,13 @@ ghost use Rattle.marc_types.specs.Valid.{field_size, is_record};
 ghost use Rattle.marc_types.specs.declared.field.Field.{Field};
 ghost use Rattle.iso2709_record.specs.Written.{base_address, directory_bytes, field_bytes, field_length, field_terminator, fields_length, fits, record_bytes, record_length, record_terminator};
 
+use crate::directory::{DIRECTORY, ENTRY_LEN};
 use crate::written::WrittenRecord;
 use iso2709_record::{
     append_field, entry_block, field_len, field_of, leader_block, leader_of, start_of,
 };
 use marc_types::{Field, NoMemory};
 use std::alloc::Global;
-
-/// Where the directory begins.
-const DIRECTORY: usize = 24;
-
-/// The bytes of a directory's entry.
-const ENTRY_LEN: usize = 12;
 
 impl WrittenRecord {
     /// Where a field starts, behind the base address.

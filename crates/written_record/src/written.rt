@@ -8,6 +8,7 @@ ghost use Rattle.iso2709_record.specs.Layout.{layout_of};
 ghost use Rattle.iso2709_record.specs.Texts.{HasUtf8Texts};
 ghost use Rattle.written_record.specs.Records.{IsOfRecord, IsOfRecord-prop, IsEntryOf, HoldsRecord};
 
+use crate::directory::tag_in;
 use iso2709_record::{
     Layout, each_text_is_utf8, encode_vec, field_from, field_of, layout_of, leader_of,
     texts_are_utf8,
@@ -132,9 +133,11 @@ impl WrittenRecord {
     pub fn tag_at(&self, field: u32) -> Option<Tag>
         ensures { result ≡ option_map tag_of (slice_get self.now.fields field) }
     {
-        match self.entry(field) {
-            Some(entry) => Some(entry.tag),
-            None => None,
+        let (bytes, layout) = self.parts();
+        if field < layout.entries {
+            Some(tag_in(bytes, field))
+        } else {
+            None
         }
     }
 

@@ -28,7 +28,7 @@ fn migrated(alloc: Global, old: &[u8], new: &[u8]) -> Result<MemDisk, MigrateFau
     if JournalScan::open(alloc, disk(alloc, old)?, LIMITS, &mut history).is_err() {
         return Err(MigrateFault::NoMemory);
     }
-    match migrate(alloc, history.as_slice(), disk(alloc, new)?, LIMITS) {
+    match migrate(alloc, history.into_vec(), disk(alloc, new)?, LIMITS) {
         Ok(disk) => Ok(disk),
         Err((_disk, fault)) => Err(fault),
     }

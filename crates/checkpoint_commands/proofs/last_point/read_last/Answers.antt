@@ -10,16 +10,16 @@ pub returns-in-Ok-clause-read : goal.returns-in-Ok-clause-read
 returns-in-Ok-clause-read g c =
     let seen = g.D.Disk.seen in
     let t = c.in-Ok.ensures.found in
-    let version = c.in-Ok.version in
-    found_only t.frames t.place version version (seen c.args.disk) (seen c.find_each.new.disk) t.found refl (IsErrOf c.last_known.result DeviceFault)
+    let version = c.in-Ok.end.version in
+    found_only t.frames c.in-Ok.end.place version version (seen c.args.disk) (seen c.find_each.new.disk) t.found refl (IsErrOf c.last_known.result DeviceFault)
 
 pub returns-in-Ok-clause-last : goal.returns-in-Ok-clause-last
 returns-in-Ok-clause-last g c =
     let seen = g.D.Disk.seen in
     let t = c.in-Ok.ensures.found in
-    let version = c.in-Ok.version in
+    let version = c.in-Ok.end.version in
     let last = c.last_known.ensures in
-    last_read t.frames t.place version version (seen c.args.disk) (seen c.find_each.new.disk) t.found refl c.last_known.result
+    last_read t.frames c.in-Ok.end.place version version (seen c.args.disk) (seen c.find_each.new.disk) t.found refl c.last_known.result
     (last_taken c.last_known.result t.frames c.find_each.new.taker.known t.has last.last) last.newest
 
 pub returns-in-Ok-clause-order : goal.returns-in-Ok-clause-order
@@ -31,14 +31,14 @@ pub returns-in-Ok-clause-untaken : goal.returns-in-Ok-clause-untaken
 returns-in-Ok-clause-untaken g c =
     let seen = g.D.Disk.seen in
     let t = c.in-Ok.ensures.found in
-    let version = c.in-Ok.version in
-    last_unread t.frames t.place version version (seen c.args.disk) (seen c.find_each.new.disk) t.found refl c.last_known.result
+    let version = c.in-Ok.end.version in
+    last_unread t.frames c.in-Ok.end.place version version (seen c.args.disk) (seen c.find_each.new.disk) t.found refl c.last_known.result
     (unread_taken c.last_known.result (number_of version) t.frames c.find_each.new.taker.known t.has c.last_known.ensures.untaken)
 
 pub returns-in-Ok-clause-cause : goal.returns-in-Ok-clause-cause
 returns-in-Ok-clause-cause g c device =
     let t = c.in-Ok.ensures.found in
-    let version = number_of c.in-Ok.version in
+    let version = number_of c.in-Ok.end.version in
     absurd (untaken_device c.last_known.result version t.frames (unread_taken c.last_known.result version t.frames c.find_each.new.taker.known t.has c.last_known.ensures.untaken) device)
 
 pub returns-in-Err-clause-read : goal.returns-in-Err-clause-read

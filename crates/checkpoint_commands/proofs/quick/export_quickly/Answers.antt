@@ -54,19 +54,19 @@ returns-in-Ok-write_resumed-clause-ends g c =
     c.in-Ok-written.taken c.in-Ok-written.is c.in-Ok-written.ensures.written _ refl refl c.in-Ok-write_resumed.ensures.line
 
 -- or the console couldn't be written
-pub returns-in-Ok-written-clause-closed : goal.returns-in-Ok-written-clause-closed
-returns-in-Ok-written-clause-closed g c =
+pub returns-in-Err-write_resumed-clause-closed : goal.returns-in-Err-write_resumed-clause-closed
+returns-in-Err-write_resumed-clause-closed g c =
     let w = c.write_from-written.ensures in
     closed_all _ _ _ _ c.args.journal.now (c.args.point.now ∷ outputs_of c.args.out.now (option_copied c.args.report)) c.open_history.ensures.apart w.apart
     c.close_history.ensures.apart w.closed c.close_history.ensures.closed c.requires.closed
 
-pub returns-in-Ok-written-clause-apart : goal.returns-in-Ok-written-clause-apart
-returns-in-Ok-written-clause-apart g c =
+pub returns-in-Err-write_resumed-clause-apart : goal.returns-in-Err-write_resumed-clause-apart
+returns-in-Err-write_resumed-clause-apart g c =
     apart_all _ _ _ _ c.args.journal.now (c.args.point.now ∷ outputs_of c.args.out.now (option_copied c.args.report)) c.open_history.ensures.apart
     c.write_from-written.ensures.apart c.close_history.ensures.apart
 
-pub returns-in-Ok-written-clause-ends : goal.returns-in-Ok-written-clause-ends
-returns-in-Ok-written-clause-ends g c =
+pub returns-in-Err-write_resumed-clause-ends : goal.returns-in-Err-write_resumed-clause-ends
+returns-in-Err-write_resumed-clause-ends g c =
     let room = g.R.Room.seen in
     let opened = c.in-Ok.ensures in
     let taken = opened.taken in
@@ -79,19 +79,19 @@ returns-in-Ok-written-clause-ends g c =
     c.in-Ok-written.taken c.in-Ok-written.is c.in-Ok-written.ensures.written _ refl refl c.write_resumed.ensures.front c.in-Err-write_resumed.ensures.cause.failed
 
 -- the export isn't there
-pub returns-clause-closed : goal.returns-clause-closed
-returns-clause-closed g c =
+pub returns-in-Err-written-clause-closed : goal.returns-in-Err-written-clause-closed
+returns-in-Err-written-clause-closed g c =
     let w = c.write_from-written.ensures in
     closed_all _ _ _ _ c.args.journal.now (c.args.point.now ∷ outputs_of c.args.out.now (option_copied c.args.report)) c.open_history.ensures.apart w.apart
     c.close_history.ensures.apart w.closed c.close_history.ensures.closed c.requires.closed
 
-pub returns-clause-apart : goal.returns-clause-apart
-returns-clause-apart g c =
+pub returns-in-Err-written-clause-apart : goal.returns-in-Err-written-clause-apart
+returns-in-Err-written-clause-apart g c =
     apart_all _ _ _ _ c.args.journal.now (c.args.point.now ∷ outputs_of c.args.out.now (option_copied c.args.report)) c.open_history.ensures.apart
     c.write_from-written.ensures.apart c.close_history.ensures.apart
 
-pub returns-clause-ends : goal.returns-clause-ends
-returns-clause-ends g c =
+pub returns-in-Err-written-clause-ends : goal.returns-in-Err-written-clause-ends
+returns-in-Err-written-clause-ends g c =
     let room = g.R.Room.seen in
     let opened = c.in-Ok.ensures in
     let taken = opened.taken in

@@ -1,6 +1,4 @@
-use Rattle.std.proofs.Common.{◌≡◌, ℕ, true, List, Some}
-use Rattle.durable_catalogue.specs.Logs.{HasHistory}
-use Rattle.journal_files.specs.Journals.{journal_limits, log_bytes}
+use Rattle.journal_files.specs.Journals.{journal_limits, IsHistoryIn, IsHistoryOn}
 use Rattle.journal_files.proofs.Journals.{open_log}
 use Rattle.journal_files.proofs.Turns.{is_also}
 use Rattle.journal_files.proofs.history.open_history.Goals as goal
@@ -13,10 +11,9 @@ returns-in-Ok-open-clause-log g c =
 
 pub returns-in-Ok-open-clause-taken : goal.returns-in-Ok-open-clause-taken
 returns-in-Ok-open-clause-taken g c =
-    let log = log_bytes (g.R.Room.seen c.args.room.now) c.args.name.now in
-    is_also (g.T.EntryTaker.has c.args.taker.now c.open.new.taker) (λ entries. (bytes : List ℕ) → (g.R.Log.Disk.seen c.in-Ok.log).content ≡ Some bytes → HasHistory entries bytes)
-    (λ entries. (g.R.Room.seen c.args.room.now).tells ≡ true → HasHistory entries log) journal_limits
-    (λ entries has told. has log (c.in-Ok.ensures.bytes told)) c.in-Ok-open.ensures.taken
+    is_also (g.T.EntryTaker.has c.args.taker.now c.open.new.taker) (IsHistoryOn (g.R.Log.Disk.seen c.in-Ok.log))
+    (IsHistoryIn (g.R.Room.seen c.args.room.now) c.args.name.now) journal_limits
+    (λ entries has told. has _ (c.in-Ok.ensures.bytes told)) c.in-Ok-open.ensures.taken
 
 pub returns-in-Err-clause-refused : goal.returns-in-Err-clause-refused
 returns-in-Err-clause-refused g c =

@@ -6,6 +6,8 @@ use Rattle.commit_journal.specs.declared.format.TheConstants.{FIRST_GATE}
 use Rattle.commit_journal.specs.Log.{header_fault, version_of_header, walk}
 use Rattle.commit_journal.specs.Versions.{number_of}
 use Rattle.journal_verification.specs.Walking.{IsUnread, IsRead}
+use Rattle.commit_journal.specs.Tails.{tail_behind}
+use Rattle.commit_journal.specs.declared.tail.Tail.TheVariants.{Nothing}
 use Rattle.journal_verification.specs.Contents.{torn_behind, IsVerified}
 use Rattle.entry_history.specs.Frames.{IsNoJournal}
 use Rattle.journal_verification.proofs.Walks.{same_place, same_fault}
@@ -69,9 +71,10 @@ returns-clause-verified g c log comes =
     let rest = length-drop 16 log in
     let least = no_less log c.fill.new.self.window.items _ come long in
     let bytes : c.in_ok-bytes.bytes ≡ length log = omega (arith, total, size, rest, least, place) in
-    whole_is log c.fill.new.self.window.items _ come long number right (is ∙ says) c.args.wanted end c.in_ok-bytes.bytes started found c.torn_at.result
+    whole_is log c.fill.new.self.window.items _ come long number right (is ∙ says) c.args.wanted end c.in_ok-bytes.bytes started found c.torn_at.result c.tail_behind.result
     (subst (λ p. IsRead number p c.args.wanted started (drop 16 log) found end) place read) held
     bytes (c.torn_at.ensures ∙ ap (λ p. torn_behind p c.in_ok-bytes.bytes) c.place-place.ensures)
+    (c.tail_behind.ensures ∙ ap (λ p. tail_behind p c.in_ok-bytes.bytes) c.place-place.ensures)
 
 pub returns-clause-front : goal.returns-clause-front
 returns-clause-front g c log comes =
@@ -89,5 +92,5 @@ returns-clause-front g c log comes =
     let filled = c.fill.ensures.place in
     let first = c.requires.place in
     let place : c.pass.new.self.place ≡ 16 = omega (arith, passed, filled, first) in
-    front_read log c.fill.new.self.window.items _ come long number right says c.args.wanted end 0 started found None
+    front_read log c.fill.new.self.window.items _ come long number right says c.args.wanted end 0 started found None Nothing
     (subst (λ p. IsRead number p c.args.wanted started (drop 16 log) found end) place (c.in-Ok-take_frames.ensures.read (drop 16 log) behind)) held

@@ -29,21 +29,21 @@ returns-in-Err-clause-over g c =
 -- it was, and its history was brought over or not
 pub returns-clause-closed : goal.returns-clause-closed
 returns-clause-closed g c =
-    closed_over _ _ _ _ _ _ c.open_history.ensures.apart c.bring_into-brought.ensures.apart c.close_history.ensures.apart
-    (λ same. c.requires.differ (sym same)) c.close_history.ensures.closed c.bring_into-brought.ensures.closed c.requires.closed
+    closed_over _ _ _ _ _ _ c.open_history.ensures.apart c.bring_old-brought.ensures.apart c.close_history.ensures.apart
+    (λ same. c.requires.differ (sym same)) c.close_history.ensures.closed c.bring_old-brought.ensures.closed c.requires.closed
 
 pub returns-clause-apart : goal.returns-clause-apart
 returns-clause-apart g c =
-    apart_over _ _ _ _ _ _ c.open_history.ensures.apart c.bring_into-brought.ensures.apart c.close_history.ensures.apart
+    apart_over _ _ _ _ _ _ c.open_history.ensures.apart c.bring_old-brought.ensures.apart c.close_history.ensures.apart
 
 pub returns-clause-over : goal.returns-clause-over
 returns-clause-over g c =
     let room = g.R.Room.seen in
     let opened = c.in-Ok.ensures in
     let taken = opened.taken in
-    let brought = c.bring_into-brought.ensures in
+    let brought = c.bring_old-brought.ensures in
     let closing = c.close_history.ensures in
     over_either c.args.from.now c.args.into.now (λ same. c.requires.differ (sym same)) (room c.args.room.now) (room c.open_history.new.room)
-    (room c.bring_into-brought.new.room) (room c.close_history.new.room) (g.R.Log.Disk.seen c.in-Ok.log.journal.disk) c.as_slice.result.now taken.entries c.number.result _
-    c.open_history.ensures.apart brought.apart closing.apart (c.as_slice.ensures ∙ taken.taken) taken.history taken.within (c.number.ensures.number ∙ ap number_of c.version.ensures) opened.log.version_is
-    opened.log.kept closing.log brought.brings c.bring_into-brought.result brought.counted brought.brought brought.fault brought.kept brought.settled
+    (room c.bring_old-brought.new.room) (room c.close_history.new.room) (g.R.Log.Disk.seen c.in-Ok.log.journal.disk) c.into_vec.result.items taken.entries c.number-version.result _
+    c.open_history.ensures.apart brought.apart closing.apart (c.into_vec.ensures ∙ taken.taken) taken.history taken.within (c.number-version.ensures.number ∙ ap number_of c.version.ensures) opened.log.version_is
+    opened.log.kept closing.log brought.brings c.bring_old-brought.result brought.counted brought.brought brought.fault brought.kept brought.settled

@@ -9,51 +9,51 @@ use Rattle.migrate_command.proofs.Opened.{opened_alone, finds_of, no_front_of, u
 use Rattle.migrate_command.specs.declared.fault.MigrateFault.TheVariants.{NoMemory, DeviceFault}
 use Rattle.migrate_command.proofs.migration.migrate.Goals as goal
 
-pub returns-in-Ok-front_of-clause-migrated : goal.returns-in-Ok-front_of-clause-migrated
-returns-in-Ok-front_of-clause-migrated g c =
+pub returns-in-Ok-rest_of-clause-migrated : goal.returns-in-Ok-rest_of-clause-migrated
+returns-in-Ok-rest_of-clause-migrated g c =
     let log = c.in-Ok.found in
     let limits = c.args.limits in
-    let history = c.args.history.now in
-    let front = c.in-Ok-front_of.ensures in
-    let finds = finds_of c.version.result log.version c.into_vec.result.items c.in-Ok.frames limits history c.version.ensures c.into_vec.ensures c.in-Ok-front_of.count log.place
-    (g.D.Disk.seen c.args.new) (g.D.Disk.seen log.disk) c.in-Ok.ensures.found front.version front.front in
-    c.bring_into.ensures.brought c.args.new limits finds
+    let history = c.args.history.items in
+    let rest = c.in-Ok-rest_of.ensures in
+    let finds = finds_of c.version.result log.version c.into_vec.result.items c.in-Ok.frames limits history c.version.ensures c.into_vec.ensures c.in-Ok-rest_of.payloads.items log.place
+    (g.D.Disk.seen c.args.new) (g.D.Disk.seen log.disk) c.in-Ok.ensures.found rest.version rest.rest in
+    c.bring_into.ensures.brought c.args.new limits history finds
 
-pub returns-in-Ok-front_of-clause-crash : goal.returns-in-Ok-front_of-clause-crash
-returns-in-Ok-front_of-clause-crash g c was is_history =
+pub returns-in-Ok-rest_of-clause-crash : goal.returns-in-Ok-rest_of-clause-crash
+returns-in-Ok-rest_of-clause-crash g c was is_history =
     let log = c.in-Ok.found in
     let limits = c.args.limits in
-    let history = c.args.history.now in
-    let front = c.in-Ok-front_of.ensures in
-    let finds = finds_of c.version.result log.version c.into_vec.result.items c.in-Ok.frames limits history c.version.ensures c.into_vec.ensures c.in-Ok-front_of.count log.place
-    (g.D.Disk.seen c.args.new) (g.D.Disk.seen log.disk) c.in-Ok.ensures.found front.version front.front in
-    c.bring_into.ensures.crash was c.args.new limits is_history finds
+    let history = c.args.history.items in
+    let rest = c.in-Ok-rest_of.ensures in
+    let finds = finds_of c.version.result log.version c.into_vec.result.items c.in-Ok.frames limits history c.version.ensures c.into_vec.ensures c.in-Ok-rest_of.payloads.items log.place
+    (g.D.Disk.seen c.args.new) (g.D.Disk.seen log.disk) c.in-Ok.ensures.found rest.version rest.rest in
+    c.bring_into.ensures.crash was c.args.new limits history is_history finds
 
-pub returns-in-Ok-front_of-clause-refused : goal.returns-in-Ok-front_of-clause-refused
-returns-in-Ok-front_of-clause-refused g c =
+pub returns-in-Ok-rest_of-clause-refused : goal.returns-in-Ok-rest_of-clause-refused
+returns-in-Ok-rest_of-clause-refused g c =
     let log = c.in-Ok.found in
     let limits = c.args.limits in
-    let history = c.args.history.now in
-    let front = c.in-Ok-front_of.ensures in
-    let finds = finds_of c.version.result log.version c.into_vec.result.items c.in-Ok.frames limits history c.version.ensures c.into_vec.ensures c.in-Ok-front_of.count log.place
-    (g.D.Disk.seen c.args.new) (g.D.Disk.seen log.disk) c.in-Ok.ensures.found front.version front.front in
-    c.bring_into.ensures.refused c.args.new limits finds
+    let history = c.args.history.items in
+    let rest = c.in-Ok-rest_of.ensures in
+    let finds = finds_of c.version.result log.version c.into_vec.result.items c.in-Ok.frames limits history c.version.ensures c.into_vec.ensures c.in-Ok-rest_of.payloads.items log.place
+    (g.D.Disk.seen c.args.new) (g.D.Disk.seen log.disk) c.in-Ok.ensures.found rest.version rest.rest in
+    c.bring_into.ensures.refused c.args.new limits history finds
 
-pub returns-in-Err-front_of-clause-crash : goal.returns-in-Err-front_of-clause-crash
-returns-in-Err-front_of-clause-crash g c was is_history =
+pub returns-in-Err-rest_of-clause-crash : goal.returns-in-Err-rest_of-clause-crash
+returns-in-Err-rest_of-clause-crash g c was is_history =
     let seen = g.D.Disk.seen in
     let found = c.in-Ok.ensures.found in
-    subst (λ d. IsMigration c.args.limits c.args.history.now (seen c.args.new) (seen d)) (sym c.leave.ensures)
-    (opened_alone c.args.limits c.args.history.now (seen c.args.new) (seen c.in-Ok.found.disk) found.opens (same_leaves (seen c.args.new) (seen c.in-Ok.found.disk) found.unwritten.content))
+    subst (λ d. IsMigration c.args.limits c.args.history.items (seen c.args.new) (seen d)) (sym c.leave.ensures)
+    (opened_alone c.args.limits c.args.history.items (seen c.args.new) (seen c.in-Ok.found.disk) found.opens (same_leaves (seen c.args.new) (seen c.in-Ok.found.disk) found.unwritten.content))
 
-pub returns-in-Err-front_of-clause-refused : goal.returns-in-Err-front_of-clause-refused
-returns-in-Err-front_of-clause-refused g c =
+pub returns-in-Err-rest_of-clause-refused : goal.returns-in-Err-rest_of-clause-refused
+returns-in-Err-rest_of-clause-refused g c =
     let seen = g.D.Disk.seen in
     let log = c.in-Ok.found in
-    let history = c.args.history.now in
+    let history = c.args.history.items in
     let found = c.in-Ok.ensures.found in
-    let fault = c.in-Err-front_of.fault in
-    let why = no_front_of c.version.result log.version c.into_vec.result.items c.in-Ok.frames c.args.limits history c.version.ensures c.into_vec.ensures fault c.in-Err-front_of.ensures.fault in
+    let fault = c.in-Err-rest_of.fault in
+    let why = no_front_of c.version.result log.version c.into_vec.result.items c.in-Ok.frames c.args.limits history c.version.ensures c.into_vec.ensures fault c.in-Err-rest_of.ensures.fault in
     record {
       so = λ bytes told. unmigrated c.in-Ok.frames (number_of log.version) c.args.limits history fault bytes (found.was bytes told) (found.named bytes told) why;
       left_alone = λ bytes told none.
@@ -61,19 +61,19 @@ returns-in-Err-front_of-clause-refused g c =
           (left_found c.in-Ok.frames log.place (number_of log.version) (seen c.args.new) (seen log.disk) found fault bytes told);
       kept = λ other. subst (λ d. Unwritten (seen c.args.new) (seen d)) (sym c.leave.ensures) found.unwritten;
       settled = λ other. inl (subst (λ d. OnlyContent (seen d)) (sym c.leave.ensures) found.only);
-      failed = λ device. absurd (c.in-Err-front_of.ensures.no_device device);
+      failed = λ device. absurd (c.in-Err-rest_of.ensures.no_device device);
     }
 
 pub returns-in-Err-clause-crash : goal.returns-in-Err-clause-crash
 returns-in-Err-clause-crash g c was is_history =
-    opened_alone c.args.limits c.args.history.now (g.D.Disk.seen c.args.new) (g.D.Disk.seen c.in-Err.failed.0) c.in-Err.ensures.crash
+    opened_alone c.args.limits c.args.history.items (g.D.Disk.seen c.args.new) (g.D.Disk.seen c.in-Err.failed.0) c.in-Err.ensures.crash
     (same_leaves (g.D.Disk.seen c.args.new) (g.D.Disk.seen c.in-Err.failed.0) c.in-Err.ensures.unwritten.content)
 
 pub returns-in-Err-clause-refused : goal.returns-in-Err-clause-refused
 returns-in-Err-clause-refused g c = record {
   so = λ log told.
       let seen = g.D.Disk.seen in
-      let history = c.args.history.now in
+      let history = c.args.history.items in
       subst (λ f. IsUnmigrated c.args.limits history log f) (sym c.migrate_fault.ensures)
       (unopened (seen c.args.new) (seen c.in-Err.failed.0) c.args.limits history c.in-Err.failed.1 c.in-Err.ensures.fault log told);
   left_alone = λ log told none.

@@ -44,11 +44,10 @@ returns-in-Ok-bring_history-clause-apart g c =
 pub returns-in-Ok-bring_history-clause-ends : goal.returns-in-Ok-bring_history-clause-ends
 returns-in-Ok-bring_history-clause-ends g c =
     let log = c.in-Ok.log.items in
-    salvages_brought c.args.journal.now c.args.into.now _ (λ same. c.requires.differ (sym same)) log (g.R.Room.seen c.read_file.new.room) c.as_str.result.now c.as_slice.result.now
+    salvages_brought c.args.journal.now c.args.into.now _ (λ same. c.requires.differ (sym same)) log (g.R.Room.seen c.read_file.new.room) c.as_str.result.now c.in-Ok-look_over.found.entries.items
     c.read_file.ensures.stays c.bring_history.ensures.apart c.in-Ok.ensures.bytes
-    (subst (λ es. IsFoundSound log es c.as_str.result.now) (sym c.as_slice.ensures.value)
-    (subst (IsFoundSound log c.in-Ok-look_over.found.entries.items) (sym c.as_str.ensures.value) c.in-Ok-look_over.ensures.found))
-    c.bring_history.ensures.brings c.in-Ok-bring_history.ensures.brought c.tell_result.ensures
+    (subst (IsFoundSound log c.in-Ok-look_over.found.entries.items) (sym c.as_str.ensures.value) c.in-Ok-look_over.ensures.found)
+    c.bring_history.ensures.brings c.in-Ok-bring_history.ensures.taken c.tell_result.ensures
 
 -- it wasn't
 pub returns-clause-closed : goal.returns-clause-closed
@@ -66,7 +65,7 @@ returns-clause-ends g c =
     let why = c.in-Err-bring_history.ensures in
     let log = c.in-Ok.log.items in
     let text = string_bytes c.in-Ok-look_over.found.text in
-    salvages_unbrought c.args.journal.now c.args.into.now _ (λ same. c.requires.differ (sym same)) log (g.R.Room.seen c.read_file.new.room) text c.as_slice.result.now
+    salvages_unbrought c.args.journal.now c.args.into.now _ (λ same. c.requires.differ (sym same)) log (g.R.Room.seen c.read_file.new.room) text c.in-Ok-look_over.found.entries.items
     c.read_file.ensures.stays c.bring_history.ensures.apart c.in-Ok.ensures.bytes
-    (subst (λ es. IsFoundSound log es text) (sym c.as_slice.ensures.value) c.in-Ok-look_over.ensures.found) c.bring_history.ensures.brings
+    c.in-Ok-look_over.ensures.found c.bring_history.ensures.brings
     c.in-Err-bring_history.fault told.end told.told why.fault why.kept why.settled

@@ -18,7 +18,7 @@ use Rattle.worklist_command.specs.Unheld.{EndsListingUnheld}
 use Rattle.worklist_command.specs.Working.{EndsListing}
 use Rattle.holdings_command.specs.Attaching.{AttachesHoldings, EndsAttaching}
 use Rattle.journal_verification.specs.Verifying.{EndsVerifying}
-use Rattle.journal_verification.specs.Owning.{EndsVerifyingDigest}
+use Rattle.journal_verification.specs.Comparing.{EndsVerifyingDigest}
 use Rattle.migrate_command.specs.Migrates.{EndsMigrating}
 use Rattle.salvage_command.specs.Salvages.{EndsSalvaging}
 use Rattle.checkpoint_commands.specs.Checkpoints.{EndsCheckpoint}

@@ -20,3 +20,6 @@ returns-clause-complete g c = c.carry_through.ensures.carried.complete
 
 pub returns-clause-sure : goal.returns-clause-sure
 returns-clause-sure g c = c.carry_through.ensures.carried.sure
+
+pub returns-clause-misfits : goal.returns-clause-misfits
+returns-clause-misfits g c = c.carry_through.ensures.carried.misfits

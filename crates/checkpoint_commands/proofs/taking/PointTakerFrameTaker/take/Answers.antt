@@ -2,10 +2,10 @@ use Rattle.std.proofs.Common.{◌≡◌, sym, subst}
 use Rattle.checkpoint_commands.specs.Taking.{IsKnown}
 use Rattle.checkpoint_commands.proofs.taking.PointTakerFrameTaker.take.Goals as goal
 
-pub returns : goal.returns
-returns c = record {
+pub returns-in-Ok : goal.returns-in-Ok
+returns-in-Ok c = record {
   taken = λ before is.
       let value = c.replace-before.ensures.value in
       let same : c.replace-before.result ≡ c.args.self.now.known = cc in
-      c.in_ok-self.ensures before (subst (IsKnown before) (sym same) is);
+      c.in-Ok.ensures before (subst (IsKnown before) (sym same) is);
 }

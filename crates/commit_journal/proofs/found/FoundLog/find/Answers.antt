@@ -8,5 +8,5 @@ invariant_of-found g c =
     record {
       room = c.in-Ok.ensures.room;
       only = found.only;
-      read = read_at c.in-Ok.log.frames.items c.in-Ok.log.place (number_of c.in-Ok.log.version) (g.D.Disk.seen c.look.new.disk) found.read;
+      read = read_at c.in-Ok.frames.items c.in-Ok.end.place (number_of c.in-Ok.end.version) (g.D.Disk.seen c.look.new.disk) found.read;
     }

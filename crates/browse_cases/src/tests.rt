@@ -1,0 +1,3 @@
+mod of_loaders;
+mod of_pages;
+mod pieces;
