@@ -231,7 +231,7 @@ def trial(program, folder, records, count):
 
 
 def main(words):
-    if len(words) >= 4 and words[0] == "split" and 2 <= int(words[1]) <= 1024:
+    if len(words) >= 4 and words[0] == "split" and 1 <= int(words[1]) <= 1024:
         split(int(words[1]), words[2], words[3:])
     elif len(words) >= 3 and words[0] == "join":
         join(words[1], words[2:])

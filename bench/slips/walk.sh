@@ -98,6 +98,16 @@ slip 2 'reading stands before export, report, matches, holdings, headings or wor
 slip 2 'a word is missing' reading export u.jnl
 slip 2 'u.jnl is named twice' reading report u.jnl u.jnl
 
+echo '# large'
+union_cat large load large.jnl A=made.mrc >/dev/null 2>&1; cmp -s large.jnl u.jnl || { echo 'a journal of large load is another'; wrong=1; }
+union_cat large export u.jnl large.out 2>/dev/null && cmp -s large.out all.out || { echo 'large export is another'; wrong=1; }
+slip 2 'a word is missing' large
+for words in 'make 1 10 o' help version 'large export u.jnl o'; do
+    slip 2 'large stands before every command but make, help and version' large $words
+done
+slip 2 'there is no command exprot: did you mean export?' large exprot u.jnl o
+slip 2 'a word is missing' large export u.jnl
+
 echo '# what is refused'
 { head -c 500 made.mrc | tr -d '\035'; printf '\035'; cat made.mrc; printf 'an end'; } >bad.mrc
 union_cat refused back.mrc A=bad.mrc >out 2>err

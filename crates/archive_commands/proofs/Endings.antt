@@ -40,7 +40,7 @@ module _ (journal out : List ℕ) (due : List Entry → List ℕ) (o : Outcome) 
   -- a fault was told, of a journal that was not opened or where memory ran out behind that
   pub reads_fault : (reason : OpenFault) → o.end ≡ Told (fault_of_opening reason) → IsTold (fault_of_opening reason) o
       → SameBut o.old o.new (journal ∷ []) → reason ≢ opening.OldVersion
-      → (o.old.tells ≡ true → IsUnopened journal_limits (log_bytes o.old journal) reason)
+      → (o.old.tells ≡ true → IsUnopened (journal_limits o.old) (log_bytes o.old journal) reason)
       → (o.old.tells ≡ true → KeepsHistory (reason ≡ opening.DeviceFault) o.old o.new journal)
       → (o.old.tells ≡ true → reason ≢ opening.DeviceFault → reason ≢ opening.NoMemory → log_bytes o.new journal ≡ log_bytes o.old journal)
       → (reason ≡ opening.DeviceFault → Rose (o.old.log_faults journal) (o.new.log_faults journal)) → ReadsJournal journal out due o
@@ -66,7 +66,7 @@ module _ (journal out : List ℕ) (due : List Entry → List ℕ) (o : Outcome) 
   -- the same of a fault in the words in which it was told
   pub reads_unopened : (reason : OpenFault) (fault : Fault) → fault ≡ fault_of_opening reason → o.end ≡ Told fault → IsTold fault o
       → SameBut o.old o.new (journal ∷ []) → reason ≢ opening.OldVersion
-      → (o.old.tells ≡ true → IsUnopened journal_limits (log_bytes o.old journal) reason)
+      → (o.old.tells ≡ true → IsUnopened (journal_limits o.old) (log_bytes o.old journal) reason)
       → (o.old.tells ≡ true → KeepsHistory (reason ≡ opening.DeviceFault) o.old o.new journal)
       → (o.old.tells ≡ true → reason ≢ opening.DeviceFault → log_bytes o.new journal ≡ log_bytes o.old journal)
       → (reason ≡ opening.DeviceFault → Rose (o.old.log_faults journal) (o.new.log_faults journal)) → ReadsJournal journal out due o
@@ -78,12 +78,12 @@ module _ (journal out : List ℕ) (due : List Entry → List ℕ) (o : Outcome) 
     pub keeps : (failed : Type 0) → o.old.tells ≡ true → KeepsHistory failed o.old o.new journal
     pub durable : o.old.tells ≡ true → IsDurable o.new journal
     pub has : o.old.tells ≡ true → HasHistory history (log_bytes o.old journal)
-    pub within : IsWithin journal_limits history
+    pub within : IsWithin (journal_limits o.old) history
     pub left : o.old.tells ≡ true → IsOutputLeft o.old o.new out (due history)
 
   pub was_read : (mid : RoomView) (disk : DiskView) (history : List Entry) → journal ≢ out → SameBut o.old mid (journal ∷ [])
       → (mid.tells ≡ true → IsClosedDisk disk o.new journal)
-      → (o.old.tells ≡ true → HasHistory history (log_bytes o.old journal)) → IsWithin journal_limits history
+      → (o.old.tells ≡ true → HasHistory history (log_bytes o.old journal)) → IsWithin (journal_limits o.old) history
       → (o.old.tells ≡ true → KeepsLog (log_bytes o.old journal) disk)
       → (mid.tells ≡ true → IsOutputLeft mid o.new out (due history)) → WasRead history
   was_read mid disk history differ opened log has within kept left = record {
@@ -112,7 +112,7 @@ module _ (journal out : List ℕ) (due : List Entry → List ℕ) (o : Outcome) 
       device = λ also. absurd (told_not_done o.end Device also is);
       out_cause = λ also. absurd (done_not_unwritten o.end Out is also);
       durable = λ untold. r.durable;
-      history = λ untold tells. fitting_history history (log_bytes o.old journal) (r.has tells) r.within;
+      history = λ untold tells. fitting_history o.old history (log_bytes o.old journal) (r.has tells) r.within;
       whole = λ entries also tells has.
           due_of_any (λ whole. o.new.file out ≡ Some whole) due entries history (log_bytes o.old journal) has (r.has tells) (bytes tells);
       part = λ entries also. left_is entries;
@@ -130,7 +130,7 @@ module _ (journal out : List ℕ) (due : List Entry → List ℕ) (o : Outcome) 
       device = λ also. absurd (told_not_unwritten o.end Device Out also is);
       out_cause = λ also. rose;
       durable = λ untold. r.durable;
-      history = λ untold tells. fitting_history history (log_bytes o.old journal) (r.has tells) r.within;
+      history = λ untold tells. fitting_history o.old history (log_bytes o.old journal) (r.has tells) r.within;
       whole = λ entries also. absurd (done_not_unwritten o.end Out also is);
       part = λ entries also. left_is entries;
     }
@@ -143,7 +143,7 @@ module _ (journal out : List ℕ) (due : List Entry → List ℕ) (o : Outcome) 
 
   -- the output was written, or it could not be, or memory ran out before it was begun
   pub reads_output : {T : Type 0} → (mid : RoomView) (disk : DiskView) (history : List Entry) (written : Result T WriteFault) → journal ≢ out
-      → SameBut o.old mid (journal ∷ []) → (o.old.tells ≡ true → HasHistory history (log_bytes o.old journal)) → IsWithin journal_limits history
+      → SameBut o.old mid (journal ∷ []) → (o.old.tells ≡ true → HasHistory history (log_bytes o.old journal)) → IsWithin (journal_limits o.old) history
       → (o.old.tells ≡ true → KeepsLog (log_bytes o.old journal) disk) → (mid.tells ≡ true → IsClosedDisk disk o.new journal)
       → IsOutput mid o.new out (due history) written → OnOk written (mid.tells ≡ true → o.new.file out ≡ Some (due history))
       → (written ≡ Err NoMemory → SameBut mid o.new (journal ∷ [])) → OnOk written (o.end ≡ Done) → (written ≡ Err OutputFault → o.end ≡ out_unwritten)

@@ -66,8 +66,8 @@ pub record ReadsJournal (journal out : List ℕ) (due : List Entry → List ℕ)
   -- the outside's faults have their cause
   pub device : o.end ≡ Told Device → Rose (o.old.log_faults journal) (o.new.log_faults journal)
   pub out_cause : o.end ≡ out_unwritten → Rose (o.old.out_faults out) (o.new.out_faults out)
-  -- the log has a history within the limits, which is durable, and the output is what is due of it; where it could not be written it is as it was or that
-  pub history : TellsNoFault o.end → o.old.tells ≡ true → HasFittingHistory (log_bytes o.old journal)
+  -- the log has a history within the room's limits, which is durable, and the output is what is due of it; where it could not be written it is as it was or that
+  pub history : TellsNoFault o.end → o.old.tells ≡ true → HasFittingHistory o.old (log_bytes o.old journal)
   pub durable : TellsNoFault o.end → o.old.tells ≡ true → IsDurable o.new journal
   pub whole : (entries : List Entry) → o.end ≡ Done → o.old.tells ≡ true → HasHistory entries (log_bytes o.old journal)
       → o.new.file out ≡ Some (due entries)

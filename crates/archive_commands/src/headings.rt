@@ -1,8 +1,7 @@
 ghost use Rattle.std.specs.Prelude.{◌≡◌, ◌≢◌, ℕ, List, [], ◌∷◌, None};
 ghost use Rattle.console_lines.specs.Ends.{outcome};
-ghost use Rattle.command_words.specs.Asked.{range_asked};
 ghost use Rattle.outside.specs.Room.{SameBut};
-ghost use Rattle.archive_commands.specs.Telling.{TellsHeadings};
+ghost use Rattle.archive_commands.specs.Telling.{TellsList};
 
 use crate::list::write_list;
 use command_words::HeadingRange;
@@ -25,7 +24,7 @@ pub fn list_headings<R: Room>(
     requires differ { journal.now ≢ out.now }
     ensures closed { (name : List ℕ) → (R.seen room.new).open_as name ≡ None }
     ensures apart { SameBut (R.seen room.old) (R.seen room.new) (journal.now ∷ out.now ∷ []) }
-    ensures ends { TellsHeadings journal.now out.now (range_asked range.entry)
+    ensures ends { TellsList journal.now out.now range.entry
         (outcome R.seen R.Out.written R.Out.faults room.old room.new console.old console.new result) }
 {
     let archive = match open_archive(alloc, room, journal) {

@@ -1,11 +1,10 @@
 //! The list of a catalogue's headings, as a file.
 ghost use Rattle.std.specs.Prelude.{◌≡◌, ◌∷◌, [], true, Some, None, OnOk, IsErrOf};
 ghost use Rattle.outside.specs.Fault.{HasWriteCause};
-ghost use Rattle.command_words.specs.Asked.{range_asked};
 ghost use Rattle.outside.specs.Room.{AsLog, SameBut};
 ghost use Rattle.output_files.specs.Outputs.{IsOutput, IsOutputLeft};
 ghost use Rattle.journal_files.specs.Journals.{IsClosedDisk};
-ghost use Rattle.heading_list.specs.Telling.{headings_due};
+ghost use Rattle.archive_commands.specs.Telling.{list_due};
 
 use catalogue_core::Catalogue;
 use command_words::HeadingRange;
@@ -33,9 +32,9 @@ pub fn write_headings<R: Room>(
     ensures cause { HasWriteCause ((R.seen room.old).out_faults out.now) ((R.seen room.new).out_faults out.now) result }
     ensures unbegun { IsErrOf result WriteFault.NoMemory → SameBut (R.seen room.old) (R.seen room.new) [] }
     ensures bytes { OnOk result ((R.seen room.old).tells ≡ true →
-        (R.seen room.new).file out.now ≡ Some (headings_due (range_asked range.entry) core.now.history)) }
+        (R.seen room.new).file out.now ≡ Some (list_due range.entry core.now.history)) }
     ensures left { (R.seen room.old).tells ≡ true →
-        IsOutputLeft (R.seen room.old) (R.seen room.new) out.now (headings_due (range_asked range.entry) core.now.history) }
+        IsOutputLeft (R.seen room.old) (R.seen room.new) out.now (list_due range.entry core.now.history) }
 {
     match headings_of_catalogue(alloc, core, range) {
         Ok(list) => write_document(room, out, list),
@@ -60,10 +59,10 @@ pub fn write_list<R: Room>(
     ensures closed { (R.seen room.new).open_as journal.now ≡ None }
 
     // The output, as `write_headings` leaves it.
-    ensures output { IsOutput (R.seen room.old) (R.seen room.new) out.now (headings_due (range_asked range.entry) archive.core.history) result }
+    ensures output { IsOutput (R.seen room.old) (R.seen room.new) out.now (list_due range.entry archive.core.history) result }
     ensures memory { IsErrOf result WriteFault.NoMemory → SameBut (R.seen room.old) (R.seen room.new) (journal.now ∷ []) }
     ensures bytes { OnOk result ((R.seen room.old).tells ≡ true →
-        (R.seen room.new).file out.now ≡ Some (headings_due (range_asked range.entry) archive.core.history)) }
+        (R.seen room.new).file out.now ≡ Some (list_due range.entry archive.core.history)) }
 
     // The log and its file are what the archive left.
     ensures log { (R.seen room.old).tells ≡ true → IsClosedDisk (R.Log.seen archive.journal.disk) (R.seen room.new) journal.now }

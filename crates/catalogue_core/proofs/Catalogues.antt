@@ -11,7 +11,8 @@ use Rattle.entry_record.specs.History.{IsAdmitted, entry_size, entries_size}
 use Rattle.catalogue_core.specs.Catalogues.{all_entries, catalogued, is_full, with_kept, with_staged, without_staged, entries_seen, IsCatalogue}
 use Rattle.catalogue_core.specs.Engines.{Engined, empty_engine}
 use Rattle.catalogue_core.proofs.Engines.{empty_is}
-use Rattle.catalogue_core.proofs.Entries.{state_last, each_last, size_last, length_last, take_whole, drop_none, each_taken, size_taken, length_taken, room_of}
+use Rattle.entry_record.proofs.Sizes.{size_behind}
+use Rattle.catalogue_core.proofs.Entries.{state_last, each_last, length_last, take_whole, drop_none, each_taken, size_taken, length_taken, room_of}
 
 -- ---- what a catalogue keeps for contracts alone
 
@@ -52,7 +53,7 @@ pub catalogue_added : (engine next : Engined) (kept kept_bytes : ℕ) (entries n
     → IsCatalogue next kept kept_bytes now (bytes + entry_size e) limits
 catalogue_added engine next kept kept_bytes entries now bytes limits e c admitted full is stays put =
     let room = room_of (catalogued kept entries limits) entries e (all_is kept entries limits) full in
-    let size = size_last entries e in
+    let size = size_behind entries e in
     let longer = length_last entries e in
     let bytes_were = c.bytes_are in
     let count_fits = room.count in

@@ -1,10 +1,9 @@
 -- A list of entries with one more behind it, or with its front alone; whether there is room; and what a receipt says.
 use Rattle.std.proofs.Common.{◌≡◌, ℕ, zero, suc, ◌+◌, ◌-◌, ◌≤◌, false, ◌||◌, List, [], ◌∷◌, ◌++◌, length, take, drop, map, refl, sym, ap, ◌∙◌, arith}
 use Rattle.std.specs.Prelude.{nat_lt}
-use Rattle.std.specs.List.{sum_by}
 use Rattle.std.proofs.lemmas.Bool.{or_parts, ltb-false}
 use Rattle.std.proofs.lemmas.List.{take-append-drop}
-use Rattle.std.proofs.lemmas.List.Sums.{fold-append, sum_by-append, sum_by-cons}
+use Rattle.std.proofs.lemmas.List.Sums.{fold-append, sum_by-append}
 use Rattle.marc_types.specs.declared.entry.Entry.{Entry}
 use Rattle.marc_types.specs.declared.entry.Limits.{Limits}
 use Rattle.catalogue_rules.specs.State.{State, empty_state}
@@ -32,13 +31,6 @@ state_last entries e = ap state_after (map_last entries e) ∙ after_last (map a
 pub each_last : (xs : List Entry) (e : Entry) → Each IsAdmitted xs → IsAdmitted e → Each IsAdmitted (xs ++ e ∷ [])
 each_last [] e a p = (p, tt)
 each_last (x ∷ xs) e a p = (a.0, each_last xs e a.1 p)
-
-pub size_last : (xs : List Entry) (e : Entry) → entries_size (xs ++ e ∷ []) ≡ entries_size xs + entry_size e
-size_last xs e =
-    let parts = sum_by-append entry_size xs (e ∷ []) in
-    let one = sum_by-cons entry_size e [] in
-    let none : sum_by entry_size [] ≡ 0 = refl in
-    omega arith
 
 pub length_last : (xs : List Entry) (e : Entry) → length (xs ++ e ∷ []) ≡ length xs + 1
 length_last [] e = refl

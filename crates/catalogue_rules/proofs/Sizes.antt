@@ -19,7 +19,8 @@ cut test (x ∷ xs) = at (test x) (cut test xs)
     at true e = refl
     at false e = rw e refl
 
-regions : (whole : Bool) (subs : List Subfield) → region whole subs ++ behind whole subs ≡ subs
+-- the region of a part and what stands behind it are the whole
+pub regions : (whole : Bool) (subs : List Subfield) → region whole subs ++ behind whole subs ≡ subs
 regions true [] = refl
 regions true (x ∷ xs) = rw (regions true xs) refl
 regions false subs = cut is_dividing subs

@@ -1,13 +1,10 @@
 -- What is written so is spelled once: its bytes, whatever stands behind them, are those of nothing else.
 use mathlib.Core.HLevel.{is_prop→PathP}
-use Rattle.std.proofs.Common.{◌≡◌, ◌∙◌, ℕ, suc, ◌+◌, ◌^◌, ◌<◌, ◌≤◌, Bool, true, false, List, [], ◌∷◌, ◌++◌, length, Option, Some, None, is_some, refl, sym, ap, subst, arith, append_assoc}
-use Rattle.std.proofs.Math.Bool.{Bool-set}
-use Rattle.std.proofs.lemmas.Nat.{from_be_bytes-to_be_bytes_4, from_be_bytes-to_be_bytes_8}
+use Rattle.std.proofs.Common.{◌≡◌, ◌∙◌, ℕ, suc, ◌+◌, ◌^◌, ◌<◌, ◌≤◌, Bool, true, false, List, [], ◌∷◌, ◌++◌, length, Option, Some, None, is_some, refl, sym, ap, arith, append_assoc}
 use native.Mathlib.Nat.{ℕ_set}
 use Rattle.std.specs.Prelude.{◌==◌, ◌%◌, ◌/◌}
-use Rattle.std.specs.Int.{w32, w64, to_be_bytes, from_be_bytes}
+use Rattle.std.specs.Int.{w32, to_be_bytes}
 use Rattle.std.specs.List.{All, flat_map}
-use Rattle.marc_types.specs.Valid.{is_record}
 use Rattle.marc_types.specs.declared.key.Class.{Class}
 use Rattle.marc_types.specs.declared.key.Class.TheVariants.{Authority, Bibliographic}
 use Rattle.marc_types.specs.declared.key.Key.{Key}
@@ -16,6 +13,7 @@ use Rattle.marc_types.specs.declared.record.Record.{Record}
 use Rattle.iso2709_record.specs.Written.{record_bytes}
 use Rattle.iso2709_record.proofs.Spelled.{parts_same, record_spelled_once}
 use Rattle.iso2709_record.proofs.Lengths.{length-record_bytes}
+use Rattle.entry_record.proofs.Spelled.{short_once, record_is}
 use Rattle.entry_record.proofs.Written.{fitting_length}
 use Rattle.entry_record.specs.Identity.{control_number_of}
 use Rattle.kept_rows.specs.declared.row.KeptRow.{KeptRow}
@@ -32,16 +30,6 @@ cons_first a b x y e = cc
 
 pub cons_others : {X : Type 0} (a b : X) (x y : List X) → a ∷ x ≡ b ∷ y → x ≡ y
 cons_others a b x y e = cc
-
-pub long_once : (n m : ℕ) (x y : List ℕ) → n < 2 ^ 64 → m < 2 ^ 64 → to_be_bytes w64 n ++ x ≡ to_be_bytes w64 m ++ y → (n ≡ m) × (x ≡ y)
-long_once n m x y small other e =
-    let parts = parts_same (to_be_bytes w64 n) (to_be_bytes w64 m) x y refl e in
-    (sym (from_be_bytes-to_be_bytes_8 n small) ∙ ap (from_be_bytes w64) parts.0 ∙ from_be_bytes-to_be_bytes_8 m other, parts.1)
-
-pub short_once : (n m : ℕ) (x y : List ℕ) → n < 2 ^ 32 → m < 2 ^ 32 → to_be_bytes w32 n ++ x ≡ to_be_bytes w32 m ++ y → (n ≡ m) × (x ≡ y)
-short_once n m x y small other e =
-    let parts = parts_same (to_be_bytes w32 n) (to_be_bytes w32 m) x y refl e in
-    (sym (from_be_bytes-to_be_bytes_4 n small) ∙ ap (from_be_bytes w32) parts.0 ∙ from_be_bytes-to_be_bytes_4 m other, parts.1)
 
 pub coded_once : (a b r s : List ℕ) → coded a ++ r ≡ coded b ++ s → (a ≡ b) × (r ≡ s)
 unfolding coded
@@ -184,14 +172,6 @@ head_once class other code written r other_code other_written s p q e =
     let codes = coded_once code other_code _ _ (cons_others _ _ _ _ same) in
     let records = sized_once written other_written r s p q codes.1 in
     (class_once class other (cons_first _ _ _ _ same), codes.0, records.0, records.1)
-
--- a record is its leader and its fields
-pub record_is : (r s : Record) → r.leader ≡ s.leader → r.fields ≡ s.fields → r ≡ s
-record_is r s leader fields =
-    subst (λ fs. (v : is_record s.leader fs ≡ true) → r ≡ record { leader = s.leader; fields = fs; valid = v }) fields
-    (subst (λ l. (v : is_record l r.fields ≡ true) → r ≡ record { leader = l; fields = r.fields; valid = v }) leader
-    (λ v. ap (λ p. record { leader = r.leader; fields = r.fields; valid = p }) (Bool-set (is_record r.leader r.fields) true r.valid v)))
-    s.valid
 
 -- a kept record is its class, its key, a record and its ties
 row_is : (r s : KeptRow) → r.class ≡ s.class → r.key ≡ s.key → r.rec ≡ s.rec → r.ties ≡ s.ties → r ≡ s

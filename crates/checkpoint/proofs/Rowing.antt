@@ -19,7 +19,8 @@ use Rattle.checkpoint.specs.Fronts.{BeginWith, BeginWithNone, IsNoFront}
 use Rattle.checkpoint.specs.Reading.{AreNotCoded, AreNotSized, ties_bytes, AreProperTies, HaveHead, HaveNoHead, IsWrittenOf, IsOfNoRecord, IsNoKey, AreRows, AreNoRows}
 use Rattle.checkpoint.specs.declared.fault.PartFault.{PartFault}
 use Rattle.checkpoint.specs.declared.fault.PartFault.TheVariants.{BadPart, NoMemory}
-use Rattle.checkpoint.proofs.Once.{cons_first, cons_others, coded_once, head_parts, head_once, record_is, written_small, row_parts, row_spelled, row_some}
+use Rattle.entry_record.proofs.Spelled.{record_is}
+use Rattle.checkpoint.proofs.Once.{cons_first, cons_others, coded_once, head_parts, head_once, written_small, row_parts, row_spelled, row_some}
 use Rattle.checkpoint.proofs.Lists.{AreRead, NoneEnds, none_read, one_more, none_more}
 
 -- bytes that have no head

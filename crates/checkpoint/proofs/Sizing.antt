@@ -4,7 +4,8 @@ use Rattle.std.proofs.lemmas.List.{take-append-drop}
 use Rattle.std.specs.Int.{w32, to_be_bytes}
 use Rattle.checkpoint.specs.Format.{sized}
 use Rattle.checkpoint.specs.Reading.{AreNotSized}
-use Rattle.checkpoint.proofs.Once.{short_once, sized_parts}
+use Rattle.entry_record.proofs.Spelled.{short_once}
+use Rattle.checkpoint.proofs.Once.{sized_parts}
 
 pub sized_there : (bytes behind part rest : List ℕ) (n : ℕ) → bytes ≡ to_be_bytes w32 n ++ behind → part ≡ take n behind → rest ≡ drop n behind → length part ≡ n
     → sized part ++ rest ≡ bytes

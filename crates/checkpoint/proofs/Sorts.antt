@@ -11,7 +11,8 @@ use Rattle.checkpoint.specs.declared.part.Part.{Part}
 use Rattle.checkpoint.specs.declared.part.Part.TheVariants.{Begin, Rows, End}
 use Rattle.checkpoint.specs.declared.fault.PartFault.{PartFault}
 use Rattle.checkpoint.specs.declared.fault.PartFault.TheVariants.{BadPart, NoMemory}
-use Rattle.checkpoint.proofs.Once.{cons_first, cons_others, long_once, row_spelled, row_some}
+use Rattle.entry_record.proofs.Spelled.{long_once}
+use Rattle.checkpoint.proofs.Once.{cons_first, cons_others, row_spelled, row_some}
 
 empty_list : (bytes : List ℕ) → length bytes ≡ 0 → bytes ≡ []
 empty_list [] none = refl

@@ -104,7 +104,7 @@ module _ (journal point : List ℕ) (o : Outcome) (reason : OpenFault) (is : o.e
 -- the journal was opened, a checkpoint was put behind those of POINT or not, and the journal was closed again
 module _ (journal point : List ℕ) (differ : journal ≢ point) (o : Outcome) (opened mid : RoomView) (disk : DiskView) (history : List Entry)
     (first : SameBut o.old opened (journal ∷ [])) (last : SameBut mid o.new (journal ∷ [])) (then : mid.tells ≡ opened.tells)
-    (has : o.old.tells ≡ true → HasHistory history (log_bytes o.old journal)) (within : IsWithin journal_limits history)
+    (has : o.old.tells ≡ true → HasHistory history (log_bytes o.old journal)) (within : IsWithin (journal_limits o.old) history)
     (kept : o.old.tells ≡ true → KeepsLog (log_bytes o.old journal) disk) (log : mid.tells ≡ true → IsClosedDisk disk o.new journal)
     (puts : opened.tells ≡ true → PutsBehind history opened mid point) where
   keeps_journal : (failed : Type 0) → o.old.tells ≡ true → KeepsHistory failed o.old o.new journal
@@ -130,7 +130,7 @@ module _ (journal point : List ℕ) (differ : journal ≢ point) (o : Outcome) (
       (alone (first.tells ∙ tells)
       (λ found has. none found (subst (IsPointLog found) (bytes_first (journal ∷ []) point (none_of_one differ) o.old opened mid o.new first last) has)))))
       (λ other tells. across.alone (λ device. other (ap fault_of_opening device)) tells) (inr (record {
-        history = λ tells. fitting_history history (log_bytes o.old journal) (has tells) within;
+        history = λ tells. fitting_history o.old history (log_bytes o.old journal) (has tells) within;
         reason = reason;
         is = refl;
         refused = across;

@@ -184,14 +184,14 @@ module _ (journal point out : List ℕ) (report : Option (List ℕ)) (o : Outcom
 module _ (journal point out : List ℕ) (report : Option (List ℕ)) (differ : journal ≢ point) (apart_outs : IsNoneOf journal (outputs_of out report)) (o : Outcome)
     (opened mid : RoomView) (disk : DiskView) (history taken_history : List Entry) (same : history ≡ taken_history) (result : Result ℕ QuickFault)
     (first : SameBut o.old opened (journal ∷ [])) (second : SameBut opened mid (point ∷ outputs_of out report)) (last : SameBut mid o.new (journal ∷ []))
-    (took : o.old.tells ≡ true → HasHistory taken_history (log_bytes o.old journal)) (fitting : IsWithin journal_limits taken_history)
+    (took : o.old.tells ≡ true → HasHistory taken_history (log_bytes o.old journal)) (fitting : IsWithin (journal_limits o.old) taken_history)
     (kept : o.old.tells ≡ true → KeepsLog (log_bytes o.old journal) disk) (log : mid.tells ≡ true → IsClosedDisk disk o.new journal)
     (keeps_point : opened.tells ≡ true → KeepsPoint opened mid point result) where
   has : o.old.tells ≡ true → HasHistory history (log_bytes o.old journal)
   has tells = subst (λ es. HasHistory es (log_bytes o.old journal)) (sym same) (took tells)
 
-  within : IsWithin journal_limits history
-  within = subst (IsWithin journal_limits) (sym same) fitting
+  within : IsWithin (journal_limits o.old) history
+  within = subst (IsWithin (journal_limits o.old)) (sym same) fitting
 
   keeps_journal : (failed : Type 0) → o.old.tells ≡ true → KeepsHistory failed o.old o.new journal
   keeps_journal failed tells = closed_keeps o.old o.new journal disk (log (second.tells ∙ first.tells ∙ tells)) failed (kept tells)
@@ -230,7 +230,7 @@ module _ (journal point out : List ℕ) (report : Option (List ℕ)) (differ : j
       → IsNotWrittenFrom history point out report opened mid (Refused reason) → ExportsQuickly journal point out report o
   quick_refused reason err is told refused =
       quick_fault journal point out report o reason is told (keeps_journal (IsDeviceOf o journal)) (keeps_log (IsDeviceOf o point) device) same_point (inr (record {
-        history = λ tells. fitting_history history (log_bytes o.old journal) (has tells) within;
+        history = λ tells. fitting_history o.old history (log_bytes o.old journal) (has tells) within;
         reason = reason;
         is = refl;
         refused = across;

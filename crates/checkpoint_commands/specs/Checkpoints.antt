@@ -38,7 +38,7 @@ EndsCheckpoint (Told Memory) = Unit {0}
 EndsCheckpoint (Told OldVersion) = Unit {0}
 EndsCheckpoint (Told OtherHistory) = ⊥
 
--- What comes of POINT: it is untouched; or the journal has a history, within the limits, of which a checkpoint is put behind those of
+-- What comes of POINT: it is untouched; or the journal has a history, within the room's limits, of which a checkpoint is put behind those of
 -- POINT, as far as it comes, and the journal is durable.
 pub data PutsHistory (journal point : List ℕ) (old new : RoomView) : Type 0 where
   Untouched : IsUntouched old new point → PutsHistory journal point old new
@@ -49,7 +49,7 @@ pub data PutsHistory (journal point : List ℕ) (old new : RoomView) : Type 0 wh
 pub record IsCheckpointed (journal point : List ℕ) (o : Outcome) : Type 0 where
   pub history : List Entry
   pub has : HasHistory history (log_bytes o.old journal)
-  pub within : IsWithin journal_limits history
+  pub within : IsWithin (journal_limits o.old) history
   pub put : IsPutBehind history o.old o.new point
   pub line : o.end ≡ Done → Appends o.told o.now (checkpoint_line (length history))
   pub front : o.end ≡ console_unwritten → WritesFront o.told o.now (checkpoint_line (length history))

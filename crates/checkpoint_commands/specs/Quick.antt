@@ -53,11 +53,11 @@ pub record IsStateFrom (history : List Entry) (last : Option Point) (taken : ℕ
   pub whole : IsOfHistory last history → state ≡ state_of history
   pub unspared : taken ≡ 0 → state ≡ state_of history
 
--- The journal has a history, within the limits, and POINT is a log of checkpoints; and so is the state that they make.
+-- The journal has a history, within the room's limits, and POINT is a log of checkpoints; and so is the state that they make.
 pub record IsResumedFrom (journal point : List ℕ) (room : RoomView) : Type 0 where
   pub history : List Entry
   pub has : HasHistory history (log_bytes room journal)
-  pub within : IsWithin journal_limits history
+  pub within : IsWithin (journal_limits room) history
   pub last : Option Point
   pub was : IsPointLog last (log_bytes room point)
   pub taken : ℕ

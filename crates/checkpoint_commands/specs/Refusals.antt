@@ -27,9 +27,9 @@ pub record IsPointRefused (old new : RoomView) (point : List ℕ) (why : OpenFau
   pub alone : why ≢ opening.DeviceFault → old.tells ≡ true → KeepsHistory ⊥ old new point
   pub cause : why ≡ opening.DeviceFault → Rose (old.log_faults point) (new.log_faults point)
 
--- The journal has a history, within the limits, and POINT was refused behind it. Nothing but these two was opened.
+-- The journal has a history, within the room's limits, and POINT was refused behind it. Nothing but these two was opened.
 pub record IsRefusedBehind (journal point : List ℕ) (why : Fault) (old new : RoomView) : Type 0 where
-  pub history : old.tells ≡ true → HasFittingHistory (log_bytes old journal)
+  pub history : old.tells ≡ true → HasFittingHistory old (log_bytes old journal)
   pub reason : OpenFault
   pub is : why ≡ fault_of_opening reason
   pub refused : IsPointRefused old new point reason

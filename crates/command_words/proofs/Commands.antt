@@ -1,17 +1,17 @@
 -- What every command has that words ask for.
-use Rattle.std.proofs.Common.{◌≡◌, ◌≢◌, ℕ, ◌<◌, ◌≤◌, Bool, true, false, ◌&&◌, List, [], ◌∷◌, length, Option, Some, None, refl, sym, ap, subst, ◌∙◌, arith, codes, get_or, take, drop, ◌-◌, if◌then◌else◌}
+use Rattle.std.proofs.Common.{◌≡◌, ◌≢◌, ℕ, ◌≤◌, Bool, true, false, ◌&&◌, List, [], ◌∷◌, length, Option, Some, None, refl, sym, ap, subst, ◌∙◌, arith, codes, drop, if◌then◌else◌}
 use Rattle.std.specs.Prelude.{is_some, option_and_then, option_map, nat_le, All, map}
 use Rattle.std.specs.Str.Parse.{digits_value}
 use Rattle.std.proofs.lemmas.Bool.Decides.{nat_tests}
 use Rattle.std.specs.List.{list_all}
 use Rattle.std.specs.Str.{bytes_eq}
 use Rattle.std.proofs.lemmas.Bool.{and_parts, not-true, true≢false}
-use Rattle.std.proofs.lemmas.List.{length-map, take_all}
+use Rattle.std.proofs.lemmas.List.{length-map}
 use Rattle.std.proofs.lemmas.List.Elements.{All-nil, All-cons}
 use Rattle.std.proofs.lemmas.Slice.Eq.{bytes_eq-Decides}
 use Rattle.marc_types.specs.Valid.{is_code}
 use Rattle.outside.specs.Room.{IsNoneOf}
-use Rattle.marc_types.specs.Limits.{most_entries}
+use Rattle.marc_types.specs.Limits.{most_made}
 use Rattle.command_words.specs.declared.library.Library.{Library}
 use Rattle.command_words.specs.declared.topic.Topic.{Topic}
 use Rattle.command_words.specs.declared.topic.Topic.TheVariants as topic
@@ -19,7 +19,7 @@ use Rattle.command_words.specs.Topics.{topic_of}
 use Rattle.marc_types.specs.declared.form.Kind.{Kind}
 use Rattle.command_words.specs.Look.{Look, HeadingRange, most_headings, kind_of}
 use Rattle.command_words.specs.Look as look
-use Rattle.command_words.specs.Command.{Command, Pass, Run, Load, Browse, Export, Report, Make, Verify, VerifyPoint, VerifyDigest, Matches, Holdings, Headings, Worklist, Migrate, Salvage, Checkpoint, Quick, QuickReport, Read, ReadHoldings, ReadWorklist, Refused, Help, Version, is_name, differ, split_at_equals, library_of, are_libraries, is_free, number_upto, greatest_number, is_digest, are_two_names, are_three_names, are_four_names, are_three_alone, are_four_alone, as_pass, as_run, as_load, as_browse, as_export, as_report, as_make, as_verify, as_migrate, as_salvage, as_matches, as_holdings, as_headings, as_worklist, as_checkpoint, as_quick, is_looking, looking, unheld, as_reading, as_refused, as_help, alone, is_version_flag, is_help_flag, only_telling, over_input, over_journal, behind_verb, asks_how, command_of, words_of_files, libraries_of, file_count, names_of, AreNames, IsBounded, IsRange}
+use Rattle.command_words.specs.Command.{Command, Pass, Run, Load, Browse, Export, Report, Make, Verify, VerifyPoint, VerifyDigest, Matches, Holdings, Headings, Worklist, Migrate, Salvage, Checkpoint, Quick, QuickReport, Read, ReadHoldings, ReadWorklist, Refused, Help, Version, is_name, differ, split_at_equals, library_of, are_libraries, is_free, number_upto, greatest_number, is_digest, are_two_names, are_three_names, are_four_names, are_three_alone, are_four_alone, as_pass, as_run, as_load, as_browse, as_export, as_report, as_make, as_verify, as_migrate, as_salvage, as_matches, as_holdings, as_headings, as_worklist, as_checkpoint, as_quick, is_looking, looking, unheld, as_reading, as_refused, as_help, alone, is_version_flag, is_help_flag, only_telling, over_input, over_journal, behind_verb, asks_how, has_no_limits, asked_of, is_large, behind_large, command_of, words_of_files, libraries_of, file_count, names_of, AreNames, IsBounded, IsRange}
 
 -- a test and what it lets through
 pub if_some : {A : Type 0} (good : Bool) (a b : A) → (if good then Some a else None) ≡ Some b → (good ≡ true) × (a ≡ b)
@@ -246,9 +246,9 @@ make_is verb (seed ∷ []) c is = cc
 make_is verb (seed ∷ count ∷ []) c is = cc
 make_is verb (seed ∷ count ∷ out ∷ []) c is =
     let first = and_then_some _ (number_upto greatest_number seed) c is in
-    let second = and_then_some _ (number_upto most_entries count) c first.2 in
+    let second = and_then_some _ (number_upto most_made count) c first.2 in
     let parts = if_some (is_name out) (Make first.0 second.0 out) c second.2 in
-    subst (IsCommand (verb ∷ seed ∷ count ∷ out ∷ [])) parts.1 (without_files (verb ∷ seed ∷ count ∷ out ∷ []) _ refl refl (named out parts.0, tt, tt) (number_within most_entries count second.0 second.1))
+    subst (IsCommand (verb ∷ seed ∷ count ∷ out ∷ [])) parts.1 (without_files (verb ∷ seed ∷ count ∷ out ∷ []) _ refl refl (named out parts.0, tt, tt) (number_within most_made count second.0 second.1))
 make_is verb (seed ∷ count ∷ out ∷ other ∷ rest) c is = cc
 
 verify_is : (verb : List ℕ) (words : List (List ℕ)) (c : Command) → as_verify words ≡ Some c → IsCommand (verb ∷ words) c
@@ -504,25 +504,30 @@ behind_is verb words c is =
     chosen (bytes_eq verb (codes "version")) (alone Version words) _ c (alone_is verb words Version c (a_version (verb ∷ words))) (
     chosen (is_version_flag verb) (alone Version words) None c (alone_is verb words Version c (a_version (verb ∷ words))) (λ none. cc))))))))))))))))) is
 
-command_is : (words : List (List ℕ)) (c : Command) → command_of words ≡ Some c → IsCommand words c
+asked_is : (large : Bool) (words : List (List ℕ)) (c : Command) → asked_of large words ≡ Some c → IsCommand words c
+unfolding asked_of
+asked_is large [] c is = cc
+asked_is large (verb ∷ words) c is =
+    chosen (asks_how verb words) (option_map Help (topic_of verb)) _ c (mapped_help (verb ∷ words) (topic_of verb) c) (
+    chosen (large && has_no_limits verb) None (behind_verb verb words) c (λ none. cc) (behind_is verb words c)) is
+
+command_is : (words : List (List ℕ)) (c : Command) → command_of words ≡ Some c → IsCommand (behind_large words) c
 unfolding command_of
-command_is [] c is = cc
-command_is (verb ∷ words) c is =
-    chosen (asks_how verb words) (option_map Help (topic_of verb)) (behind_verb verb words) c (mapped_help (verb ∷ words) (topic_of verb) c) (behind_is verb words c) is
+command_is words c is = asked_is (is_large words) (behind_large words) c is
 
 -- a command has a library for each of its files
 pub libraries_are_counted : (words : List (List ℕ)) (c : Command) → command_of words ≡ Some c → length (libraries_of words) ≡ file_count c
 unfolding libraries_of
-libraries_are_counted words c is = ap (λ o. length (map split_at_equals (words_of_files words o))) is ∙ (command_is words c is).count
+libraries_are_counted words c is = ap (λ o. length (map split_at_equals (words_of_files (behind_large words) o))) is ∙ (command_is words c is).count
 
 -- their codes are proper
 pub codes_are_proper : (words : List (List ℕ)) → All (λ (l : Library). is_code l.code ≡ true) (libraries_of words)
 unfolding libraries_of
 codes_are_proper words = decided (command_of words) refl
   where
-    decided : (o : Option Command) → command_of words ≡ o → All (λ (l : Library). is_code l.code ≡ true) (map split_at_equals (words_of_files words (command_of words)))
-    decided None is = subst (λ o. All (λ (l : Library). is_code l.code ≡ true) (map split_at_equals (words_of_files words o))) (sym is) (All-nil (λ (l : Library). is_code l.code ≡ true))
-    decided (Some c) is = subst (λ o. All (λ (l : Library). is_code l.code ≡ true) (map split_at_equals (words_of_files words o))) (sym is) (command_is words c is).codes
+    decided : (o : Option Command) → command_of words ≡ o → All (λ (l : Library). is_code l.code ≡ true) (map split_at_equals (words_of_files (behind_large words) (command_of words)))
+    decided None is = subst (λ o. All (λ (l : Library). is_code l.code ≡ true) (map split_at_equals (words_of_files (behind_large words) o))) (sym is) (All-nil (λ (l : Library). is_code l.code ≡ true))
+    decided (Some c) is = subst (λ o. All (λ (l : Library). is_code l.code ≡ true) (map split_at_equals (words_of_files (behind_large words) o))) (sym is) (command_is words c is).codes
 
 -- the names of its log and outputs aren't empty, and differ from one another
 pub names_are_apart : (words : List (List ℕ)) (c : Command) → command_of words ≡ Some c → AreNames (names_of c)
@@ -531,7 +536,7 @@ names_are_apart words c is = (command_is words c is).names
 -- and from each of its files
 pub files_are_apart : (words : List (List ℕ)) (c : Command) → command_of words ≡ Some c → All (λ (l : Library). IsNoneOf l.file (names_of c)) (libraries_of words)
 unfolding libraries_of
-files_are_apart words c is = subst (λ o. All (λ (l : Library). IsNoneOf l.file (names_of c)) (map split_at_equals (words_of_files words o))) (sym is) (command_is words c is).files
+files_are_apart words c is = subst (λ o. All (λ (l : Library). IsNoneOf l.file (names_of c)) (map split_at_equals (words_of_files (behind_large words) o))) (sym is) (command_is words c is).files
 
 -- its numbers are within their bounds
 pub is_bounded : (words : List (List ℕ)) (c : Command) → command_of words ≡ Some c → IsBounded c
@@ -552,16 +557,18 @@ unfolding behind_verb
 only_over_journal verb rest pass run load browse make =
     rw (isnt verb _ pass, isnt verb _ run, isnt verb _ load, isnt verb _ browse, isnt verb _ make) refl
 
--- words of which the first is this one
-pub words_are : (words : List (List ℕ)) (verb other : List ℕ) → 1 ≤ length words → verb ≡ get_or words 0 other
-    → words ≡ verb ∷ take (length words - 1) (drop 1 words)
-words_are [] verb other some is = absurd (omega (arith, some))
-words_are (first ∷ rest) verb other some is =
-    let all : take (length (first ∷ rest) - 1) rest ≡ rest = take_all (length (first ∷ rest) - 1) rest (omega arith) in
-    ap (λ w. w ∷ rest) (sym is) ∙ ap (λ words. verb ∷ words) (sym all)
+-- no words have no `large` before them
+pub none_large : (words : List (List ℕ)) → length words ≡ 0 → is_large words ≡ false
+unfolding is_large
+none_large [] none = refl
+none_large (first ∷ rest) none = absurd (omega (arith, none))
+
+none_asked : (large : Bool) (words : List (List ℕ)) → length words ≡ 0 → asked_of large words ≡ None
+unfolding asked_of
+none_asked large [] none = refl
+none_asked large (first ∷ rest) none = absurd (omega (arith, none))
 
 -- no words are no command
-pub no_words : (words : List (List ℕ)) → length words < 1 → command_of words ≡ None
+pub no_words : (words : List (List ℕ)) → length (behind_large words) ≡ 0 → command_of words ≡ None
 unfolding command_of
-no_words [] none = refl
-no_words (first ∷ rest) none = absurd (omega (arith, none))
+no_words words none = none_asked (is_large words) (behind_large words) none

@@ -3,7 +3,7 @@ use Rattle.std.specs.Prelude.{◌≢◌, ◌≤◌, ℕ, ◌^◌, ◌-◌, Bool,
 use Rattle.std.specs.List.{before_first, after_first, position_or_len, list_all}
 use Rattle.std.specs.Str.{bytes_eq}
 use Rattle.std.specs.Str.Parse.{digits_value}
-use Rattle.marc_types.specs.Limits.{most_entries}
+use Rattle.marc_types.specs.Limits.{most_made}
 use Rattle.marc_types.specs.Valid.{is_code, is_digit}
 use Rattle.outside.specs.Room.{IsNoneOf}
 use Rattle.command_words.specs.declared.library.Library.{Library}
@@ -157,7 +157,7 @@ o >>= f = option_and_then f o
 abbrev pub as_make : List (List ℕ) → Option Command
 as_make (seed ∷ count ∷ out ∷ []) = do
   s ← number_upto greatest_number seed
-  n ← number_upto most_entries count
+  n ← number_upto most_made count
   command_if (is_name out) (Make s n out)
 as_make words = None
 
@@ -352,12 +352,33 @@ unfoldable pub asks_how : List ℕ → List (List ℕ) → Bool
 asks_how verb (word ∷ []) = is_help_flag word && not (bytes_eq verb (codes "verify"))
 asks_how verb words = false
 
+-- the verbs of commands that no limits of a catalogue concern
+unfoldable pub has_no_limits : List ℕ → Bool
+has_no_limits verb =
+    bytes_eq verb (codes "make") || bytes_eq verb (codes "help") || bytes_eq verb (codes "version") || is_help_flag verb || is_version_flag verb
+
+-- the command of a verb and the words behind it, where `large` stands before them, or doesn't
+unfoldable pub asked_of : Bool → List (List ℕ) → Option Command
+asked_of large [] = None
+asked_of large (verb ∷ words) =
+    if asks_how verb words then option_map Help (topic_of verb)
+    else if large && has_no_limits verb then None
+    else behind_verb verb words
+
+-- `large` stands before a command, which has the limits of a large catalogue then; `large --help` asks how it is used
+unfoldable pub is_large : List (List ℕ) → Bool
+is_large [] = false
+is_large (word ∷ words) = bytes_eq word (codes "large") && not (asks_how word words)
+
+-- the words without such a `large`
+abbrev pub behind_large : List (List ℕ) → List (List ℕ)
+behind_large words = if is_large words then drop 1 words else words
+
 -- the command of some words, if they are one
 unfoldable pub command_of : List (List ℕ) → Option Command
-command_of [] = None
-command_of (verb ∷ words) = if asks_how verb words then option_map Help (topic_of verb) else behind_verb verb words
+command_of words = asked_of (is_large words) (behind_large words)
 
--- the words `CODE=FILE` of a command, which stand behind its names; none where there is no command
+-- the words `CODE=FILE` of a command, which stand behind its names, of the words without `large`; none where there is no command
 abbrev pub words_of_files : List (List ℕ) → Option Command → List (List ℕ)
 words_of_files words None = []
 words_of_files words (Some (Pass out)) = drop 2 words
@@ -388,7 +409,7 @@ words_of_files words (Some Version) = []
 
 -- the libraries of the files of the words' command, in their order
 unfoldable pub libraries_of : List (List ℕ) → List Library
-libraries_of words = map split_at_equals (words_of_files words (command_of words))
+libraries_of words = map split_at_equals (words_of_files (behind_large words) (command_of words))
 
 -- how many files a command reads
 abbrev pub file_count : Command → ℕ
@@ -498,7 +519,7 @@ IsBounded (Load journal files) = (1 ≤ files) × (files ≤ 64)
 IsBounded (Browse journal out report pages files) = (1 ≤ files) × (files ≤ 64)
 IsBounded (Export journal out code) = Unit {0}
 IsBounded (Report journal out) = Unit {0}
-IsBounded (Make seed count out) = count ≤ most_entries
+IsBounded (Make seed count out) = count ≤ most_made
 IsBounded (Verify journal) = Unit {0}
 IsBounded (VerifyPoint journal point) = Unit {0}
 IsBounded (VerifyDigest journal count digest) = Unit {0}

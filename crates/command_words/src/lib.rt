@@ -8,7 +8,7 @@ pub use asked::{
 pub use kind::named_kind;
 pub use library::{Libraries, Library};
 pub use topic::{Topic, named_topic};
-pub use words::{Words, request};
+pub use words::{Words, behind_large, is_large, request};
 
 mod asked;
 mod kind;

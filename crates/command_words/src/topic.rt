@@ -24,6 +24,8 @@ pub enum Topic {
     Quick,
     Reading,
     Refused,
+    /// The word before a command that takes the limits of a large catalogue.
+    Large,
     Help,
     Version,
     /// The exit statuses of all commands.
@@ -54,6 +56,7 @@ pub fn named_topic(word: &str) -> Option<Topic>
         "quick" => Some(Topic::Quick),
         "reading" => Some(Topic::Reading),
         "refused" => Some(Topic::Refused),
+        "large" => Some(Topic::Large),
         "help" => Some(Topic::Help),
         "version" => Some(Topic::Version),
         "statuses" => Some(Topic::Statuses),

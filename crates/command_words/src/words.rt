@@ -1,7 +1,7 @@
 //! What the words of the command line ask for.
 ghost use Rattle.std.specs.Prelude.{◌≡◌, ◌∷◌, ℕ, List, Option, IfOk, IfErr, option_map, []};
 ghost use Rattle.std.specs.List.{list_all};
-ghost use Rattle.command_words.specs.Command.{Command, as_make, as_verify, is_digest, is_hex_digit, as_migrate, as_salvage, as_checkpoint, as_quick, as_help, alone, only_telling, over_input, over_journal, behind_verb, asks_how, is_help_flag, is_version_flag, command_of, Help};
+ghost use Rattle.command_words.specs.Command.{Command, as_make, as_verify, is_digest, is_hex_digit, as_migrate, as_salvage, as_checkpoint, as_quick, as_help, alone, only_telling, over_input, over_journal, behind_verb, asks_how, is_help_flag, is_version_flag, has_no_limits, asked_of, is_large, behind_large, command_of, Help};
 ghost use Rattle.command_words.specs.Topics.{topic_of};
 ghost use Rattle.command_words.specs.Asked.{alone_asked, AsksAlone, AsksFor, IsAloneAskedBy, IsAskedBy, IsFileless, IsUnasked};
 
@@ -10,14 +10,14 @@ use crate::loading::{browse, load, pass, refused, run};
 use crate::looking::{is_looking, looking, reading};
 use crate::names::{are_four_alone, are_three_alone, are_two_names, number_upto};
 use crate::topic::{Topic, named_topic};
-use marc_types::{Limits, Sequence, Text};
+use marc_types::{Sequence, Text};
 use std::alloc::Global;
 
 /// The words of the command line, without the program's name.
 pub type Words = Sequence<Text>;
 
 /// The most records of a workload.
-const MOST_COUNT: u64 = Limits::GREATEST.entries;
+const MOST_COUNT: u64 = 1_048_576;
 
 fn make(words: &[Text]) -> Option<AloneRequest<'_>>
     ensures { AsksAlone result (as_make words.now) }
@@ -297,15 +297,57 @@ fn how(verb: &str) -> Option<AloneRequest<'static>>
     })
 }
 
-/// What some words ask for, the first of which is the verb.
-#[tactic(auto, unfolding(crate::specs::Command::command_of))]
-fn asked<'a>(alloc: Global, verb: &str, rest: &'a [Text]) -> Result<Request<'a>, Unasked>
-    ensures { IsAskedBy result rest.now (command_of (verb.now ∷ rest.now)) }
+/// Whether no limits of a catalogue concern the command of this name.
+#[tactic(auto, unfolding(crate::specs::Command::has_no_limits))]
+fn has_no_limits(verb: &str) -> bool
+    ensures { result ≡ has_no_limits verb.now }
+{
+    verb == "make"
+        || verb == "help"
+        || verb == "version"
+        || is_help_flag(verb)
+        || is_version_flag(verb)
+}
+
+/// What some words ask for, the first of which is the verb, where `large` stands before them, or doesn't.
+#[tactic(auto, unfolding(crate::specs::Command::asked_of))]
+fn asked<'a>(
+    alloc: Global,
+    large: bool,
+    verb: &str,
+    rest: &'a [Text],
+) -> Result<Request<'a>, Unasked>
+    ensures { IsAskedBy result rest.now (asked_of large (verb.now ∷ rest.now)) }
 {
     if asks_how(verb, rest) {
         return alone(how(verb));
     }
+    if large && has_no_limits(verb) {
+        return Err(Unasked::Usage);
+    }
     behind_verb(alloc, verb, rest)
+}
+
+/// Whether `large` stands before a command, so that it has the limits of a large catalogue. `large --help` asks how it is used.
+#[tactic(auto, unfolding(crate::specs::Command::is_large))]
+pub fn is_large(words: &Words) -> bool
+    ensures { result ≡ is_large words.now }
+{
+    match words.as_slice().split_first() {
+        Some((word, rest)) => word.as_str() == "large" && !asks_how(word.as_str(), rest),
+        None => false,
+    }
+}
+
+/// The words without such a `large`.
+#[tactic(auto, using(crate::proofs::Commands::none_large))]
+pub fn behind_large(words: &Words) -> &[Text]
+    ensures { result.now ≡ behind_large words.now }
+{
+    match words.as_slice().split_first() {
+        Some((_, rest)) if is_large(words) => rest,
+        _ => words.as_slice(),
+    }
 }
 
 /// What the words ask for, with the libraries of their files.
@@ -315,8 +357,8 @@ pub fn request(alloc: Global, words: &Words) -> Result<Request<'_>, Unasked>
     // They ask for nothing exactly where they are no command; or there is no memory for libraries that they name.
     ensures unasked { IfErr result (λ why. IsUnasked why (command_of words.now)) }
 {
-    let [verb, rest @ ..] = words.as_slice() else {
+    let Some((verb, rest)) = behind_large(words).split_first() else {
         return Err(Unasked::Usage);
     };
-    asked(alloc, verb.as_str(), rest)
+    asked(alloc, is_large(words), verb.as_str(), rest)
 }

@@ -71,6 +71,23 @@ pub known_there : (keys : KeyLists) (done rest : List Seat) (seat : Seat) → Al
 known_there keys [] rest seat all = all.0
 known_there keys (x ∷ xs) rest seat all = known_there keys xs rest seat all.1
 
+-- the key of a place that a turn comes to is known already, and has stayed where it was
+place_stays : (test : Place → Bool) (done rest : List Seat) (seat : Seat) (old now : Linked) → ListsSeats old.keys test (done ++ seat ∷ rest) → IsAhead old now
+    → place_at now.keys seat ≡ place_at old.keys seat
+place_stays test done rest seat old now lists ahead = ahead.keys.places seat (known_there old.keys done rest seat lists.known)
+
+-- and no turn came to that place before
+comes_next : (test : Place → Bool) (done rest : List Seat) (seat : Seat) (h : KeptField) (old now : Linked) → ListsSeats old.keys test (done ++ seat ∷ rest) → IsAhead old now
+    → field_of seat now ≡ Some h → IsNext (map (place_at old.keys) done) (place_at old.keys seat) h now.state
+comes_next test done rest seat h old now lists ahead stands =
+    let p : Place = place_at old.keys seat in
+    let places : List Place = map (place_at old.keys) done in
+    let once : AreOnce (places ++ p ∷ map (place_at old.keys) rest) = subst AreOnce (map_join (place_at old.keys) done (seat ∷ rest)) lists.places.once in
+    record {
+      is_new = next_is_new places p (map (place_at old.keys) rest) once;
+      stands = subst (λ q. field_under q now.state ≡ Some h) (place_stays test done rest seat old now lists ahead) stands;
+    }
+
 pub begins : (all : List Linkable) (change : Class → KeptField → KeptField) (x : Linked) → IsMiddleWith all x.state → IsOnTheWay all change [] x x
 begins all change x middle = record { ahead = ahead_itself x; partway = partway_none change x.state; middle = middle }
 
@@ -80,14 +97,9 @@ module _ (all : List Linkable) (change : Class → KeptField → KeptField) (tes
       → IsOnTheWay all change (done ++ seat ∷ []) old new
   goes_on either lists way stands exchanged =
       let p : Place = place_at old.keys seat in
-      let known : HasKey old.keys seat = known_there old.keys done rest seat lists.known in
-      let there : place_at now.keys seat ≡ p = way.ahead.keys.places seat known in
+      let there : place_at now.keys seat ≡ p = place_stays test done rest seat old now lists way.ahead in
       let places : List Place = map (place_at old.keys) done in
-      let once : AreOnce (places ++ p ∷ map (place_at old.keys) rest) = subst AreOnce (map_join (place_at old.keys) done (seat ∷ rest)) lists.places.once in
-      let next : IsNext places p h now.state = record {
-        is_new = next_is_new places p (map (place_at old.keys) rest) once;
-        stands = subst (λ q. field_under q now.state ≡ Some h) there stands;
-      } in
+      let next : IsNext places p h now.state = comes_next test done rest seat h old now lists way.ahead stands in
       let state : new.state ≡ swapped p (change seat.class h) now.state = exchanged.state ∙ ap (λ q. swapped q (change seat.class h) now.state) there in
       let further : IsPartway change (places ++ p ∷ []) old.state (swapped p (change seat.class h) now.state) = step_on change places old.state now.state p h way.partway next in
       let middle : IsMiddleWith all (swapped p (change seat.class h) now.state) = turn_ready all change places now.state p h way.middle next either in
@@ -121,14 +133,9 @@ module _ (d : Dropping) (key : Key) (successor : Option Key) (test : Place → B
       → IsDropping d key successor (done ++ seat ∷ []) old new
   drop_turns lists way stands exchanged =
       let p : Place = place_at old.keys seat in
-      let known : HasKey old.keys seat = known_there old.keys done rest seat lists.known in
-      let there : place_at now.keys seat ≡ p = way.ahead.keys.places seat known in
+      let there : place_at now.keys seat ≡ p = place_stays test done rest seat old now lists way.ahead in
       let places : List Place = map (place_at old.keys) done in
-      let once : AreOnce (places ++ p ∷ map (place_at old.keys) rest) = subst AreOnce (map_join (place_at old.keys) done (seat ∷ rest)) lists.places.once in
-      let next : IsNext places p h now.state = record {
-        is_new = next_is_new places p (map (place_at old.keys) rest) once;
-        stands = subst (λ q. field_under q now.state ≡ Some h) there stands;
-      } in
+      let next : IsNext places p h now.state = comes_next test done rest seat h old now lists way.ahead stands in
       let same : drop_by d (linkable_authorities now.state) key successor seat.class h ≡ drop_by d (linkable_authorities old.state) key successor seat.class h =
       ap (λ all. drop_by d all key successor seat.class h) way.authorities_stay in
       let made : KeptField = drop_by d (linkable_authorities now.state) key successor seat.class h in

@@ -13,7 +13,6 @@ pub mod Opened
 pub mod Readings
 pub mod Refused
 pub mod Replies
-pub mod Sizes
 pub mod Stages
 pub mod Standing
 pub mod Takings

@@ -189,8 +189,14 @@ impl<D: Disk> Durable<D> {
         ensures whole { self.mark ≡ None → (log c : List ℕ) → (D.seen result).content ≡ Some log → (D.seen result).image c → HasHistory self.core.history c }
         ensures cause { is_some self.mark ≡ true → Rose (D.seen self.before.value).faults (D.seen result).faults }
     {
-        let Durable { journal, core, .. } = self;
+        let Durable {
+            journal,
+            core,
+            news,
+            ..
+        } = self;
         memory.end(core);
+        memory.end(news);
         journal.close()
     }
 

@@ -62,7 +62,7 @@ fn read_frame(
 }
 
 /// What an entry leaves of so many bytes.
-#[tactic(auto, using(crate::proofs::Sizes::left_more, crate::proofs::Sizes::left_passed, crate::proofs::Sizes::passed_more))]
+#[tactic(auto, using(entry_record::proofs::Sizes::left_more, entry_record::proofs::Sizes::left_passed, entry_record::proofs::Sizes::passed_more))]
 fn left_behind(left: Option<u64>, item: &Prepared) -> Option<u64>
     ensures { (bytes : ℕ) (before : List AnyEntry) → HasLeft bytes before left → HasLeft bytes (before ++ item.now ∷ []) result }
 {
@@ -91,7 +91,7 @@ fn hand_on<T: EntryTaker>(
 }
 
 /// Whether so many entries, which leave that of the bytes, are within limits.
-#[tactic(auto, using(crate::proofs::Sizes::within_both, crate::proofs::Sizes::within_few, crate::proofs::Sizes::within_short))]
+#[tactic(auto, using(entry_record::proofs::Sizes::within_both, entry_record::proofs::Sizes::within_few, entry_record::proofs::Sizes::within_short))]
 fn are_within(limits: Limits, count: u64, left: Option<u64>) -> bool
     ensures { (entries : List AnyEntry) → HasLeft limits.bytes entries left → count ≡ length entries → IsTrue result ↔ IsWithin limits entries }
 {

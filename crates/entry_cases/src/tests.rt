@@ -8,4 +8,7 @@ mod of_file_holdings;
 mod of_holdings;
 mod of_match_report;
 mod of_reading;
+mod of_sound_frames;
+mod own_reading;
+mod own_records;
 mod pieces;

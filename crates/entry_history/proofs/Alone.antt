@@ -8,7 +8,8 @@ use Rattle.entry_history.specs.Format.{payload_head, entry_bytes, payload_bytes,
 use Rattle.entry_history.specs.Alone.{IsPayload, copies}
 use Rattle.entry_history.specs.Payloads.{IsEntry, IsOf, CanFollow, HoldsNow, Holds, Newer, Older}
 use Rattle.entry_history.specs.Readers.{HasExtent}
-use Rattle.entry_history.proofs.Spelled.{long_once, short_once, entry_once}
+use Rattle.entry_record.proofs.Spelled.{long_once, short_once}
+use Rattle.entry_history.proofs.Spelled.{entry_once}
 use Rattle.entry_history.proofs.Histories.{holds_once}
 use Rattle.entry_history.proofs.Batches.{length-alone, entry_bounded}
 use Rattle.entry_record.proofs.Admitted.{admitted_library}

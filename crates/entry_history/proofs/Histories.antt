@@ -11,7 +11,8 @@ use Rattle.entry_history.specs.Reading.{HasHead, HoldsNoneNow, HoldsNoneOld}
 use Rattle.entry_history.specs.Readers.{IsVersion, HoldsNone}
 use Rattle.entry_history.specs.declared.fault.EntryFault.{EntryFault}
 use Rattle.entry_history.specs.declared.fault.EntryFault.TheVariants.{BadEntry, NoMemory}
-use Rattle.entry_history.proofs.Spelled.{long_once, short_once, entry_is, entry_once, fitting, record_once}
+use Rattle.entry_record.proofs.Spelled.{long_once, short_once}
+use Rattle.entry_history.proofs.Spelled.{entry_is, entry_once, fitting, record_once}
 use Rattle.entry_history.proofs.ReadPayloads.{payload_split, run_small, held}
 
 cons_first : {X : Type 0} (a b : X) (x y : List X) → a ∷ x ≡ b ∷ y → a ≡ b

@@ -27,7 +27,8 @@ use Rattle.entry_history.specs.Payloads.{IsEntry}
 use Rattle.entry_history.specs.Reading.{IsEntryHead, BeginWithNone, BeginWith, IsNotWritten, IsNoEntry}
 use Rattle.entry_history.specs.declared.fault.EntryFault.{EntryFault}
 use Rattle.entry_history.specs.declared.fault.EntryFault.TheVariants.{BadEntry, NoMemory}
-use Rattle.entry_history.proofs.Spelled.{long_once, short_once, entry_parts}
+use Rattle.entry_record.proofs.Spelled.{long_once, short_once}
+use Rattle.entry_history.proofs.Spelled.{entry_parts}
 use Rattle.entry_history.proofs.Format.{length_entry}
 
 pub head_made : (bytes behind more written rest : List ℕ) (ordinal n : ℕ) → bytes ≡ to_be_bytes w64 ordinal ++ behind → behind ≡ to_be_bytes w32 n ++ more

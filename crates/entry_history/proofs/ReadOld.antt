@@ -21,7 +21,8 @@ use Rattle.entry_history.specs.Payloads.{IsEntry, IsOld, IsCount, HoldsOld, old_
 use Rattle.entry_history.specs.Reading.{IsNotCoded, IsNotSized, IsOldHead, BeginOld, BeginWithNoOld, IsNoOldEntry, IsOldItem, AreOld, AreNoOld, AreOldSoFar, HoldsNoneOld, IsNotWritten, IsNoCode}
 use Rattle.entry_history.specs.declared.fault.EntryFault.{EntryFault}
 use Rattle.entry_history.specs.declared.fault.EntryFault.TheVariants.{BadEntry, NoMemory}
-use Rattle.entry_history.proofs.Spelled.{long_once, short_once, fitting}
+use Rattle.entry_record.proofs.Spelled.{long_once, short_once}
+use Rattle.entry_history.proofs.Spelled.{fitting}
 use Rattle.entry_history.proofs.ReadEntries.{one_record}
 use Rattle.entry_history.proofs.Histories.{old_parts, old_once}
 

@@ -21,7 +21,8 @@ use Rattle.entry_history.specs.Reading.{BeginWith, IsNoEntry, AreEntries, AreNoE
 use Rattle.entry_history.specs.declared.fault.EntryFault.{EntryFault}
 use Rattle.entry_history.specs.declared.fault.EntryFault.TheVariants.{BadEntry, NoMemory}
 use Rattle.entry_history.proofs.ReadEntries.{entry_long}
-use Rattle.entry_history.proofs.Spelled.{long_once, short_once, entry_once}
+use Rattle.entry_record.proofs.Spelled.{long_once, short_once}
+use Rattle.entry_history.proofs.Spelled.{entry_once}
 
 -- the next entry of all that the bytes can be
 next_begins : (run loader : ℕ) (library : List ℕ) (count : ℕ) (bytes : List ℕ) (done : ℕ) (entries : List Entry) (rest : List ℕ) (all : List Entry) (d : Entry)

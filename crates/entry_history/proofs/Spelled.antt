@@ -1,36 +1,16 @@
 -- What is written so has one reading.
-use Rattle.std.proofs.Common.{◌≡◌, ◌∙◌, ℕ, ◌^◌, ◌<◌, true, List, ◌++◌, refl, sym, ap, subst, arith, append_assoc}
-use Rattle.std.proofs.Math.Bool.{Bool-set}
-use Rattle.std.proofs.lemmas.Nat.{from_be_bytes-to_be_bytes_4, from_be_bytes-to_be_bytes_8}
-use Rattle.std.specs.Int.{w32, w64, to_be_bytes, from_be_bytes}
-use Rattle.marc_types.specs.Valid.{is_record}
+use Rattle.std.proofs.Common.{◌≡◌, ◌∙◌, ℕ, ◌^◌, ◌<◌, List, ◌++◌, refl, sym, ap, arith, append_assoc}
+use Rattle.std.specs.Int.{w32, w64, to_be_bytes}
 use Rattle.marc_types.specs.declared.record.Record.{Record}
 use Rattle.marc_types.specs.declared.entry.Entry.{Entry}
 use Rattle.iso2709_record.specs.Written.{record_length, record_bytes}
-use Rattle.iso2709_record.proofs.Spelled.{parts_same, record_spelled_once}
+use Rattle.iso2709_record.proofs.Spelled.{record_spelled_once}
 use Rattle.entry_record.specs.Identity.{class_of, key_of}
 use Rattle.entry_history.specs.Format.{entry_bytes}
 use Rattle.entry_record.proofs.Admitted.{admitted_fits}
+use Rattle.entry_record.proofs.Spelled.{long_once, short_once, record_is}
 use Rattle.entry_record.proofs.Written.{fitting_length}
 use Rattle.entry_history.specs.Payloads.{IsEntry, IsOf}
-
-pub long_once : (n m : ℕ) (x y : List ℕ) → n < 2 ^ 64 → m < 2 ^ 64 → to_be_bytes w64 n ++ x ≡ to_be_bytes w64 m ++ y → (n ≡ m) × (x ≡ y)
-long_once n m x y small other e =
-    let parts = parts_same (to_be_bytes w64 n) (to_be_bytes w64 m) x y refl e in
-    (sym (from_be_bytes-to_be_bytes_8 n small) ∙ ap (from_be_bytes w64) parts.0 ∙ from_be_bytes-to_be_bytes_8 m other, parts.1)
-
-pub short_once : (n m : ℕ) (x y : List ℕ) → n < 2 ^ 32 → m < 2 ^ 32 → to_be_bytes w32 n ++ x ≡ to_be_bytes w32 m ++ y → (n ≡ m) × (x ≡ y)
-short_once n m x y small other e =
-    let parts = parts_same (to_be_bytes w32 n) (to_be_bytes w32 m) x y refl e in
-    (sym (from_be_bytes-to_be_bytes_4 n small) ∙ ap (from_be_bytes w32) parts.0 ∙ from_be_bytes-to_be_bytes_4 m other, parts.1)
-
--- a record is its leader and its fields
-pub record_same : (r s : Record) → r.leader ≡ s.leader → r.fields ≡ s.fields → r ≡ s
-record_same r s leader fields =
-    subst (λ fs. (v : is_record s.leader fs ≡ true) → r ≡ record { leader = s.leader; fields = fs; valid = v }) fields
-    (subst (λ l. (v : is_record l r.fields ≡ true) → r ≡ record { leader = l; fields = r.fields; valid = v }) leader
-    (λ v. ap (λ p. record { leader = r.leader; fields = r.fields; valid = p }) (Bool-set (is_record r.leader r.fields) true r.valid v)))
-    s.valid
 
 entry_same : (e f : Entry) → e.loader ≡ f.loader → e.ordinal ≡ f.ordinal → e.rec ≡ f.rec → e.class ≡ f.class → e.key ≡ f.key → e.run ≡ f.run
     → e.library ≡ f.library → e ≡ f
@@ -59,7 +39,7 @@ pub record_once : (e f : Entry) (x y : List ℕ) → IsEntry e → IsEntry f
     → record_bytes e.rec.leader e.rec.fields ++ x ≡ record_bytes f.rec.leader f.rec.fields ++ y → (e.rec ≡ f.rec) × (x ≡ y)
 record_once e f x y p q same =
     let once = record_spelled_once e.rec.leader f.rec.leader e.rec.fields f.rec.fields x y e.rec.valid f.rec.valid (admitted_fits e p.admitted) (admitted_fits f q.admitted) same in
-    (record_same e.rec f.rec once.0 once.1, once.2)
+    (record_is e.rec f.rec once.0 once.1, once.2)
 
 -- the same of two entries of one run, loader and library
 pub entry_once : (run loader : ℕ) (library : List ℕ) (e f : Entry) (x y : List ℕ) → IsEntry e → IsEntry f → IsOf run loader library e → IsOf run loader library f

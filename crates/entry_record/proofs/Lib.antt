@@ -5,5 +5,7 @@ pub mod Growing
 pub mod Numbered
 pub mod PartItems
 pub mod Readings
+pub mod Sizes
+pub mod Spelled
 pub mod Undivided
 pub mod Written

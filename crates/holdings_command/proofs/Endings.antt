@@ -1,19 +1,18 @@
 -- How the command ends, from what its steps say.
 use Rattle.std.proofs.Common.{◌≡◌, ◌≢◌, ◌∙◌, ◌⊎◌, inl, inr, ℕ, true, List, [], ◌∷◌, Option, Result, Ok, Err, OnOk, refl, sym, ap, subst}
-use Rattle.std.specs.Prelude.{IsSomeAnd, IfErr, string_bytes, nat_lt, length}
+use Rattle.std.specs.Prelude.{IsSomeAnd, IfErr, string_bytes}
 use Rattle.marc_types.specs.declared.entry.Entry.{Entry}
 use Rattle.outside.specs.Disk.{DiskView}
 use Rattle.outside.specs.Fault.{Rose}
 use Rattle.outside.specs.Room.{RoomView, SameBut}
 use Rattle.command_words.specs.declared.library.Library.{Library}
-use Rattle.catalogue_rules.specs.State.{State}
 use Rattle.catalogue_rules.specs.Settle.{state_of}
 use Rattle.durable_catalogue.specs.Logs.{HasHistory}
 use Rattle.entry_record.specs.History.{IsWithin}
 use Rattle.durable_catalogue.specs.Openings.{IsUnopened}
 use Rattle.durable_catalogue.specs.declared.fault.OpenFault.{OpenFault}
 use Rattle.durable_catalogue.specs.declared.fault.OpenFault.TheVariants as opening
-use Rattle.console_lines.specs.Ends.{Outcome, IsTold, TellsNoFault, IsSilent, IsResultTold, ResultTold, ResultUntold, out_unwritten, pages_unwritten, console_unwritten}
+use Rattle.console_lines.specs.Ends.{Outcome, IsTold, TellsNoFault, IsSilent, IsResultTold, out_unwritten, pages_unwritten}
 use Rattle.console_lines.specs.declared.end.End.{End}
 use Rattle.console_lines.specs.declared.end.End.TheVariants.{Done, Refused, Unwritten as NotWritten, Told}
 use Rattle.console_lines.specs.declared.end.Unwritten.{Unwritten}
@@ -21,25 +20,22 @@ use Rattle.console_lines.specs.declared.end.Unwritten.TheVariants.{Out, Side, Pa
 use Rattle.console_lines.specs.declared.end.OutputsFault.{OutputsFault}
 use Rattle.console_lines.specs.declared.end.OutputsFault.TheVariants.{NoMemory as RanOut, Unwritten as NotBoth}
 use Rattle.console_lines.specs.declared.fault.Fault.{Fault}
-use Rattle.console_lines.specs.declared.fault.Fault.TheVariants.{Usage, Input, Device, NotAJournal, Full, Memory, OldVersion, OtherHistory}
-use Rattle.console_lines.proofs.Ends.{told_once, told_not_unwritten, never_told, unwritten_once, result_untold, result_no_output, result_no_pages, result_cause}
+use Rattle.console_lines.specs.declared.fault.Fault.TheVariants.{Input, Device, Memory}
+use Rattle.console_lines.proofs.Ends.{told_once, told_not_unwritten, never_told}
 use Rattle.journal_files.specs.Journals.{journal_limits, log_bytes, IsClosedDisk, KeepsHistory, KeepsLog, IsDurable}
 use Rattle.journal_files.specs.Faults.{fault_of_opening, WhyUnopened}
 use Rattle.journal_files.proofs.Faults.{opening_device, opening_input}
 use Rattle.journal_files.proofs.Journals.{closed_keeps, closed_durable, keeps_where}
 use Rattle.output_files.specs.Kept.{kept_keys}
-use Rattle.journal_files.proofs.Histories.{due_once, fitting_history}
-use Rattle.holdings.specs.declared.holding.Holding.{Holding}
-use Rattle.holdings.specs.Shelves.{shelf_of}
-use Rattle.file_holdings.specs.declared.refused.RefusedHolding.{RefusedHolding}
+use Rattle.journal_files.proofs.Histories.{fitting_history}
 use Rattle.holdings_export.specs.Output.{holdings_export, holdings_rest}
-use Rattle.holdings_command.specs.Lines.{holdings_results}
 use Rattle.holdings_command.specs.Shelving.{IsFaultOfShelving}
 use Rattle.holdings_command.specs.Ready.{IsReady}
-use Rattle.output_files.specs.Outputs.{AreWritten, AreStopped, AtFirst, AtSecond}
-use Rattle.holdings_command.specs.Attaching.{rest_unwritten, EndsAttaching, Due, due_of, IsDelivered, OutFailed, RestFailed, ConsoleFailed, Whole, IsAttached, AttachesHoldings}
+use Rattle.output_files.specs.Outputs.{AreWritten, AreStopped}
+use Rattle.holdings_command.specs.Attaching.{rest_unwritten, EndsAttaching, AttachesHoldings}
 use Rattle.holdings_command.specs.declared.ready.Ready.{Ready}
 use Rattle.holdings_command.proofs.OnShelves.{there_more}
+use Rattle.holdings_command.proofs.Unread.{unread_is}
 use Rattle.holdings_command.proofs.Delivering.{Delivers, attached_of_any, delivers_stopped, delivers_told}
 
 -- an opening's fault is one of this command
@@ -52,24 +48,12 @@ ends_unopened opening.NoMemory current = tt
 
 -- a fault of reading the file is one of this command, and none of a device
 ends_unread : (why : Fault) → IsFaultOfShelving why → EndsAttaching (Told why)
-ends_unread Input is = tt
-ends_unread Memory is = tt
-ends_unread Usage is = absurd is
-ends_unread Device is = absurd is
-ends_unread (NotAJournal place) is = absurd is
-ends_unread Full is = absurd is
-ends_unread OldVersion is = absurd is
-ends_unread OtherHistory is = absurd is
+ends_unread why is = unread_is (λ w. EndsAttaching (Told w)) tt tt why is
 
 because_unread : (room : RoomView) (journal : List ℕ) (why : Fault) → IsFaultOfShelving why → why ≢ Input → WhyUnopened room journal why
-because_unread room journal Input is other = absurd (other refl)
-because_unread room journal Memory is other = record { reason = opening.NoMemory; is = refl; so = λ tells. tt }
-because_unread room journal Usage is other = absurd is
-because_unread room journal Device is other = absurd is
-because_unread room journal (NotAJournal place) is other = absurd is
-because_unread room journal Full is other = absurd is
-because_unread room journal OldVersion is other = absurd is
-because_unread room journal OtherHistory is other = absurd is
+because_unread room journal why is =
+    unread_is (λ w. w ≢ Input → WhyUnopened room journal w) (λ other. absurd (other refl))
+    (λ other. record { reason = opening.NoMemory; is = refl; so = λ tells. tt }) why is
 
 ends_delivered : (end : End) → TellsNoFault end → end ≢ pages_unwritten → EndsAttaching end
 ends_delivered Done untold no_pages = tt
@@ -84,7 +68,7 @@ module _ (journal out rest : List ℕ) (library : Library) (code : Option (List 
   -- the journal was not opened
   pub attaches_unopened : (reason : OpenFault) → o.end ≡ Told (fault_of_opening reason) → IsTold (fault_of_opening reason) o
       → SameBut o.old o.new (journal ∷ []) → reason ≢ opening.OldVersion
-      → (o.old.tells ≡ true → IsUnopened journal_limits (log_bytes o.old journal) reason)
+      → (o.old.tells ≡ true → IsUnopened (journal_limits o.old) (log_bytes o.old journal) reason)
       → (o.old.tells ≡ true → KeepsHistory (reason ≡ opening.DeviceFault) o.old o.new journal)
       → (reason ≡ opening.DeviceFault → Rose (o.old.log_faults journal) (o.new.log_faults journal))
       → AttachesHoldings journal out rest library code o
@@ -121,11 +105,11 @@ module _ (journal out rest : List ℕ) (library : Library) (code : Option (List 
     pub keeps : (failed : Type 0) → o.old.tells ≡ true → KeepsHistory failed o.old o.new journal
     pub durable : o.old.tells ≡ true → IsDurable o.new journal
     pub has : o.old.tells ≡ true → HasHistory history (log_bytes o.old journal)
-    pub within : IsWithin journal_limits history
+    pub within : IsWithin (journal_limits o.old) history
 
   pub was_opened : (before : RoomView) (disk : DiskView) (history : List Entry) → (o.old.tells ≡ true → before.tells ≡ true)
       → (before.tells ≡ true → IsClosedDisk disk o.new journal)
-      → (o.old.tells ≡ true → HasHistory history (log_bytes o.old journal)) → IsWithin journal_limits history
+      → (o.old.tells ≡ true → HasHistory history (log_bytes o.old journal)) → IsWithin (journal_limits o.old) history
       → (o.old.tells ≡ true → KeepsLog (log_bytes o.old journal) disk) → WasOpened history
   was_opened before disk history tells_then log has within kept = record {
     keeps = λ failed tells. let then = tells_then tells in closed_keeps o.old o.new journal disk (log then) failed (kept tells);
@@ -151,7 +135,7 @@ module _ (journal out rest : List ℕ) (library : Library) (code : Option (List 
       out_cause = λ also. absurd (told_not_unwritten o.end why Out is also);
       rest_cause = λ also. absurd (told_not_unwritten o.end why Side is also);
       console_cause = λ also. absurd (told_not_unwritten o.end why Console is also);
-      history = λ behind tells. fitting_history history (log_bytes o.old journal) (r.has tells) r.within;
+      history = λ behind tells. fitting_history o.old history (log_bytes o.old journal) (r.has tells) r.within;
       durable = λ behind tells. r.durable tells;
       delivers = λ entries untold. absurd (never_told o.end why untold is);
     }
@@ -174,7 +158,7 @@ module _ (journal out rest : List ℕ) (library : Library) (code : Option (List 
       out_cause = d.out_cause;
       rest_cause = d.rest_cause;
       console_cause = d.console_cause;
-      history = λ behind tells. fitting_history history (log_bytes o.old journal) (r.has tells) r.within;
+      history = λ behind tells. fitting_history o.old history (log_bytes o.old journal) (r.has tells) r.within;
       durable = λ behind tells. r.durable tells;
       delivers = λ entries still tells has. there_more (o.old.file library.file)
           (λ bytes is. attached_of_any library code bytes out rest o entries history (log_bytes o.old journal) has (r.has tells) is) (d.attached tells);

@@ -104,8 +104,8 @@ pub record AttachesHoldings (journal out rest : List ℕ) (library : Library) (c
   pub out_cause : o.end ≡ out_unwritten → Rose (o.old.out_faults out) (o.new.out_faults out)
   pub rest_cause : o.end ≡ rest_unwritten → Rose (o.old.out_faults rest) (o.new.out_faults rest)
   pub console_cause : o.end ≡ console_unwritten → Rose o.faults o.faults_now
-  -- the file is read behind the journal: its log has a history within the limits, which is durable
-  pub history : IsBehindOpening o.end → o.old.tells ≡ true → HasFittingHistory (log_bytes o.old journal)
+  -- the file is read behind the journal: its log has a history within the room's limits, which is durable
+  pub history : IsBehindOpening o.end → o.old.tells ≡ true → HasFittingHistory o.old (log_bytes o.old journal)
   pub durable : IsBehindOpening o.end → o.old.tells ≡ true → IsDurable o.new journal
   -- and without a fault to tell the file was there, and what is due of both was delivered
   pub delivers : (entries : List Entry) → TellsNoFault o.end → o.old.tells ≡ true → HasHistory entries (log_bytes o.old journal)

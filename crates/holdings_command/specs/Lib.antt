@@ -2,3 +2,4 @@ pub mod Shelving
 pub mod Lines
 pub mod Ready
 pub mod Attaching
+pub mod Writing

@@ -33,9 +33,13 @@ holdings_line file accepted refused attached waiting =
     file ++ codes ": accepted " ++ decimal accepted ++ codes ", refused " ++ decimal refused
     ++ codes ", attached " ++ decimal attached ++ codes ", waiting " ++ decimal waiting ++ line_end
 
+-- what the console is told of a file: its refused pieces, and what was counted
+abbrev pub counted_results : List ℕ → ℕ → List RefusedHolding → ℕ → ℕ → List ℕ
+counted_results file accepted refused attached waiting =
+    refused_holding_lines file refused ++ holdings_line file accepted (length refused) attached waiting
+
 -- what the console is told of a file's judgement over a state
 abbrev pub holdings_results : List ℕ → State → List Holding → List RefusedHolding → List ℕ
 holdings_results file s accepted refused =
-    refused_holding_lines file refused
-    ++ holdings_line file (length accepted) (length refused)
+    counted_results file (length accepted) refused
     (length (attached_holdings s (shelf_of accepted))) (length (waiting_holdings s (shelf_of accepted)))

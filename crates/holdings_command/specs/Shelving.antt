@@ -1,6 +1,7 @@
 -- What a file's items make of an empty shelf.
-use Rattle.std.specs.Prelude.{◌≡◌, ℕ, List, length}
-use Rattle.marc_stream.specs.Pieces.{Item}
+use Rattle.std.specs.Prelude.{◌≡◌, ℕ, true, List, length, IsSomeAnd}
+use Rattle.outside.specs.Room.{RoomView}
+use Rattle.marc_stream.specs.Pieces.{Item, items}
 use Rattle.holdings.specs.declared.holding.Holding.{Holding}
 use Rattle.holdings.specs.Shelves.{shelf_of}
 use Rattle.file_holdings.specs.Files.{AreHoldings}
@@ -14,6 +15,10 @@ pub record IsShelved (library : List ℕ) (items : List Item) (s : Shelved) : Ty
   pub judged : AreHoldings library items accepted s.refused.items
   pub shelf_is : s.shelf ≡ shelf_of accepted
   pub count_is : s.accepted ≡ length accepted
+
+-- the same of the items of the file that a room has under a name, where it tells
+abbrev pub IsShelvedIn : RoomView → List ℕ → List ℕ → Shelved → Type 0
+IsShelvedIn room name library s = room.tells ≡ true → IsSomeAnd (room.file name) (λ bytes. IsShelved library (items bytes) s)
 
 -- the faults that end the reading of a file
 abbrev pub IsFaultOfShelving : Fault → Type 0

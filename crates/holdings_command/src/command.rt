@@ -5,7 +5,7 @@ ghost use Rattle.command_words.specs.Command.{AreNames};
 ghost use Rattle.console_lines.specs.Ends.{outcome};
 ghost use Rattle.holdings_command.specs.Attaching.{AttachesHoldings};
 
-use crate::ready::{Ready, prepare};
+use crate::ready::prepare;
 use crate::writing::write_both;
 use command_words::Library;
 use console_lines::{End, end_of_outputs, tell};
@@ -39,18 +39,14 @@ pub fn attach_holdings<R: Room>(
         Err(fault) => return tell(console, fault_of_opening(fault)),
     };
     let core = archive.core();
-    let Ready {
-        shelf,
-        text,
-        refused,
-    } = match prepare(alloc, room, library, core) {
+    let ready = match prepare(alloc, room, library, core) {
         Ok(ready) => ready,
         Err(fault) => {
             close_archive(room, journal, archive);
             return tell(console, fault);
         }
     };
-    let written = write_both(alloc, room, out, rest, core, &shelf, code);
+    let written = write_both(alloc, room, out, rest, core, &ready.shelf, code);
     close_archive(room, journal, archive);
-    end_of_outputs(console, written, text.as_str(), refused)
+    end_of_outputs(console, written, ready.text.as_str(), ready.refused)
 }

@@ -1,7 +1,7 @@
 //! What the console is told of a file of holdings.
-ghost use Rattle.std.specs.Prelude.{◌≡◌, ◌++◌, ℕ, IfOk, string_bytes, length};
+ghost use Rattle.std.specs.Prelude.{◌≡◌, ℕ, IfOk, string_bytes};
 ghost use Rattle.holdings.specs.declared.refusal.HoldingRefusal.TheVariants.{NoTarget};
-ghost use Rattle.holdings_command.specs.Lines.{refused_holding_line, refused_holding_lines, holdings_line};
+ghost use Rattle.holdings_command.specs.Lines.{refused_holding_line, refused_holding_lines, holdings_line, counted_results};
 
 use console_lines::refused_lines;
 use file_entries::RefusedItem;
@@ -92,8 +92,7 @@ pub fn holdings_text(
     refused: &[RefusedHolding],
     counts: ShelfCounts,
 ) -> Result<String, NoMemory>
-    ensures { IfOk result (λ text. string_bytes text ≡ refused_holding_lines file.now refused.now
-        ++ holdings_line file.now accepted (length refused.now) counts.attached counts.waiting) }
+    ensures { IfOk result (λ text. string_bytes text ≡ counted_results file.now accepted refused.now counts.attached counts.waiting) }
 {
     let mut text = refused_holdings(alloc, file, refused)?;
     let line = counts_text(alloc, file, accepted, refused.len() as u64, counts)?;

@@ -1,11 +1,10 @@
 //! A file of holdings, made ready to be written and told.
-ghost use Rattle.std.specs.Prelude.{◌≡◌, ℕ, List, true, None, IsSomeAnd, IfOk, IfErr, []};
+ghost use Rattle.std.specs.Prelude.{◌≡◌, None, IfOk, IfErr, []};
 ghost use Rattle.outside.specs.Fault.{Rose};
 ghost use Rattle.outside.specs.Room.{SameBut};
-ghost use Rattle.marc_stream.specs.Pieces.{items};
 ghost use Rattle.catalogue_rules.specs.Settle.{state_of};
-ghost use Rattle.holdings_command.specs.Shelving.{IsFaultOfShelving, IsShelved};
-ghost use Rattle.holdings_command.specs.Ready.{IsReady};
+ghost use Rattle.holdings_command.specs.Shelving.{IsFaultOfShelving};
+ghost use Rattle.holdings_command.specs.Ready.{IsReadyIn, IsReadyOf};
 
 use crate::lines::holdings_text;
 use crate::shelving::{Shelved, shelve_file};
@@ -34,8 +33,7 @@ fn ready_of(
     shelved: Shelved,
 ) -> Result<Ready, NoMemory>
     requires { core.now.staged ≡ [] }
-    ensures { IfOk result (λ ready. (bytes : List ℕ) → IsShelved library.now.code (items bytes) shelved →
-        IsReady library.now bytes (state_of core.now.history) ready) }
+    ensures { IfOk result (IsReadyOf shelved library.now (state_of core.now.history)) }
 {
     let Shelved {
         shelf,
@@ -63,8 +61,7 @@ pub fn prepare<R: Room>(
     requires free { (R.seen room.old).open_as library.now.file ≡ None }
     requires staged { core.now.staged ≡ [] }
     ensures stays { SameBut (R.seen room.old) (R.seen room.new) [] }
-    ensures ready { IfOk result (λ ready. (R.seen room.old).tells ≡ true → IsSomeAnd ((R.seen room.old).file library.now.file)
-        (λ bytes. IsReady library.now bytes (state_of core.now.history) ready)) }
+    ensures ready { IfOk result (IsReadyIn (R.seen room.old) library.now (state_of core.now.history)) }
     ensures cause { IfErr result (λ fault. fault ≡ Fault.Input →
         Rose ((R.seen room.old).in_faults library.now.file) ((R.seen room.new).in_faults library.now.file)) }
     ensures kind { IfErr result IsFaultOfShelving }

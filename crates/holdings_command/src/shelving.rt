@@ -1,9 +1,9 @@
 //! The accepted holdings of a file, on a shelf.
-ghost use Rattle.std.specs.Prelude.{◌≡◌, ◌≤◌, ℕ, List, true, false, Some, None, IsSomeAnd, IfOk, IfErr, []};
+ghost use Rattle.std.specs.Prelude.{◌≡◌, ◌≤◌, ℕ, List, true, false, Some, None, IfOk, IfErr, []};
 ghost use Rattle.outside.specs.Fault.{Rose};
 ghost use Rattle.outside.specs.Room.{SameBut};
 ghost use Rattle.marc_stream.specs.Pieces.{items};
-ghost use Rattle.holdings_command.specs.Shelving.{IsFaultOfShelving, IsShelved};
+ghost use Rattle.holdings_command.specs.Shelving.{IsFaultOfShelving, IsShelved, IsShelvedIn};
 
 use console_lines::Fault;
 use file_holdings::{FileHoldings, NextHolding, RefusedHolding};
@@ -80,8 +80,7 @@ pub fn shelve_file<R: Room>(
 ) -> Result<Shelved, Fault>
     requires { (R.seen room.old).open_as name.now ≡ None }
     ensures stays { SameBut (R.seen room.old) (R.seen room.new) [] }
-    ensures shelved { IfOk result (λ shelved. (R.seen room.old).tells ≡ true →
-        IsSomeAnd ((R.seen room.old).file name.now) (λ bytes. IsShelved library (items bytes) shelved)) }
+    ensures shelved { IfOk result (IsShelvedIn (R.seen room.old) name.now library) }
     ensures cause { IfErr result (λ fault. fault ≡ Fault.Input →
         Rose ((R.seen room.old).in_faults name.now) ((R.seen room.new).in_faults name.now)) }
     ensures kind { IfErr result IsFaultOfShelving }

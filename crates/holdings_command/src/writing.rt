@@ -1,12 +1,8 @@
 //! The outputs: the records with their holdings, and the holdings that wait.
-ghost use Rattle.std.specs.Prelude.{◌≡◌, ◌≢◌, ◌∷◌, [], true, None, OnOk, IfOk, IfErr};
+ghost use Rattle.std.specs.Prelude.{◌≡◌, ◌≢◌, ◌∷◌, [], None, OnOk, IfOk, IfErr};
 ghost use Rattle.std.specs.Option.{option_copied};
 ghost use Rattle.outside.specs.Room.{SameBut};
-ghost use Rattle.catalogue_rules.specs.Settle.{state_of};
-ghost use Rattle.output_files.specs.Kept.{kept_keys};
-ghost use Rattle.output_files.specs.Outputs.{AreWritten, AreStopped};
-ghost use Rattle.console_lines.specs.declared.end.Unwritten.{Unwritten};
-ghost use Rattle.holdings_export.specs.Output.{holdings_export, holdings_rest};
+ghost use Rattle.holdings_command.specs.Writing.{out_due, WritesBoth, StopsAtOne};
 
 use catalogue_core::Catalogue;
 use console_lines::OutputsFault;
@@ -47,7 +43,7 @@ impl<'a> HeldRecords<'a> {
         code: Option<&'a str>,
     ) -> Result<HeldRecords<'a>, NoMemory>
         requires { core.now.staged ≡ [] }
-        ensures { IfOk result (λ records. records ≡ holdings_export (kept_keys (option_copied code.entry)) (state_of core.now.history) shelf.now) }
+        ensures { IfOk result (λ records. records ≡ out_due (option_copied code.entry) core.now.history shelf.now) }
     {
         let rows = Listing::of(alloc, core)?;
         let groups = HoldingGroups::of(alloc, shelf)?;
@@ -100,13 +96,11 @@ pub fn write_both<R: Room>(
     ensures apart { SameBut (R.seen room.old) (R.seen room.new) (out.now ∷ rest.now ∷ []) }
     ensures closed { (R.seen room.new).open_as out.now ≡ None }
     ensures rest_closed { (R.seen room.new).open_as rest.now ≡ None }
-    ensures written { OnOk result ((R.seen room.old).tells ≡ true → AreWritten out.now rest.now
-        (holdings_export (kept_keys (option_copied code.entry)) (state_of core.now.history) shelf.now)
-        (holdings_rest (state_of core.now.history) shelf.now) (R.seen room.new)) }
+    ensures written { OnOk result
+        (WritesBoth (R.seen room.old) (R.seen room.new) out.now rest.now (option_copied code.entry) core.now.history shelf.now) }
     ensures memory { IfErr result (λ why. why ≡ OutputsFault.NoMemory → SameBut (R.seen room.old) (R.seen room.new) []) }
-    ensures stopped { IfErr result (λ why. (which : Unwritten) → why ≡ OutputsFault.Unwritten which → AreStopped (out.now ∷ []) out.now rest.now
-        (holdings_export (kept_keys (option_copied code.entry)) (state_of core.now.history) shelf.now)
-        (holdings_rest (state_of core.now.history) shelf.now) (R.seen room.old) (R.seen room.new) which) }
+    ensures stopped { IfErr result
+        (StopsAtOne (R.seen room.old) (R.seen room.new) out.now rest.now (option_copied code.entry) core.now.history shelf.now) }
 {
     let Ok(records) = HeldRecords::of(alloc, core, shelf, code) else {
         return Err(OutputsFault::NoMemory);

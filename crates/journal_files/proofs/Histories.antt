@@ -7,6 +7,7 @@ use Rattle.commit_journal.specs.Log.{version_of, payloads_of}
 use Rattle.entry_history.specs.Payloads.{IsHistory}
 use Rattle.entry_history.proofs.Histories.{history_once}
 use Rattle.entry_record.specs.History.{IsWithin}
+use Rattle.outside.specs.Room.{RoomView}
 use Rattle.durable_catalogue.specs.Logs.{HasHistory, IsLogOf}
 use Rattle.journal_files.specs.Journals.{journal_limits, HasFittingHistory}
 
@@ -29,6 +30,6 @@ pub due_of_any : (P : List ℕ → Type 0) (due : List Entry → List ℕ) (entr
     → HasHistory others log → P (due others) → P (due entries)
 due_of_any P due entries others log has also = subst P (sym (due_once due entries others log has also))
 
--- a history within the limits is one that fits
-pub fitting_history : (entries : List Entry) (log : List ℕ) → HasHistory entries log → IsWithin journal_limits entries → HasFittingHistory log
-fitting_history entries log has within = ∥∥₁_map has (λ is. (entries, is, within))
+-- a history within a room's limits is one that fits
+pub fitting_history : (room : RoomView) (entries : List Entry) (log : List ℕ) → HasHistory entries log → IsWithin (journal_limits room) entries → HasFittingHistory room log
+fitting_history room entries log has within = ∥∥₁_map has (λ is. (entries, is, within))

@@ -2,6 +2,8 @@
 use Rattle.std.proofs.Common.{◌≡◌, ◌⊎◌, inl, inr, ⊎_elim, ◌∙◌, ℕ, ◌<◌, ◌≤◌, max, Bool, true, false, List, length, Option, Some, None, is_some, refl, sym, ap, subst, arith, []}
 use Rattle.std.proofs.Math.Logic.{∥∥₁_map}
 use Rattle.marc_types.specs.declared.entry.Entry.{Entry}
+use Rattle.marc_types.specs.declared.entry.Limits.{Limits}
+use Rattle.marc_types.specs.Limits.{limits_of}
 use Rattle.outside.specs.Disk.{DiskView, SameDisk, Unchanged, OnlyContent}
 use Rattle.outside.specs.Fault.{Rose, count_sum}
 use Rattle.outside.specs.Room.{RoomView, AsLog, SameBut, bytes_or_none}
@@ -20,6 +22,15 @@ use Rattle.durable_catalogue.proofs.Images.{holds_newest}
 use Rattle.durable_catalogue.proofs.Keeping.{some_of}
 use Rattle.durable_catalogue.proofs.Readings.{same_log}
 use Rattle.journal_files.specs.Journals.{journal_limits, log_bytes, HasSynced, KeepsLog, KeepsHistory, Unopened, Opened, IsClosedDisk, IsClosedTo, IsJustOpened, IsOpenLog, IsRefusedLog, IsDurable}
+
+-- the limits of a room stay
+pub same_limits : (a b : RoomView) (names : List (List ℕ)) → SameBut a b names → journal_limits b ≡ journal_limits a
+same_limits a b names same = ap limits_of same.sizes
+
+-- what is refused by limits that are a room's is refused by those of the room
+pub refused_by_room : (limits : Limits) (room : RoomView) (old new : DiskView) (why : OpenFault) → limits ≡ journal_limits room
+    → IsRefusedDisk limits old new why → IsRefusedDisk (journal_limits room) old new why
+refused_by_room limits room old new why are refused = subst (λ l. IsRefusedDisk l old new why) are refused
 
 -- what the trait says of a disk's moments
 pub record IsTimed (disk : DiskView) : Type 0 where
@@ -134,7 +145,7 @@ module _ (old new : RoomView) (name : List ℕ) (disk : DiskView) (closed : IsCl
 
   -- a log that was refused and is closed again keeps its history
   pub refused_keeps : (was : DiskView) (why : OpenFault) → was.content ≡ Some (log_bytes old name) → was.moment ≡ 0
-      → IsRefusedDisk journal_limits was disk why → IsTimed disk → KeepsHistory (why ≡ DeviceFault) old new name
+      → IsRefusedDisk (journal_limits old) was disk why → IsTimed disk → KeepsHistory (why ≡ DeviceFault) old new name
   refused_keeps was why told begins refused timed =
       let log = log_bytes old name in
       closed_history (why ≡ DeviceFault) (refusal_alone was disk log told begins refused.crash (why ≡ DeviceFault) refused.left_alone)
@@ -170,7 +181,7 @@ open_log old new name version was now open_as bytes begins named opened = record
 
 -- a log that was just opened, and closed again since it is refused
 pub refused_log : (old mid new : RoomView) (name : List ℕ) (was now : DiskView) (why : OpenFault) → IsJustOpened old mid name was
-    → IsRefusedDisk journal_limits was now why → IsTimed now → new.open_as name ≡ None → (mid.tells ≡ true → IsClosedDisk now new name)
+    → IsRefusedDisk (journal_limits old) was now why → IsTimed now → new.open_as name ≡ None → (mid.tells ≡ true → IsClosedDisk now new name)
     → new.log_faults name ≡ count_sum (mid.log_faults name) now.faults → IsRefusedLog old new name why
 refused_log old mid new name was now why opened refused timed closed disk counted = record {
   closed = closed;

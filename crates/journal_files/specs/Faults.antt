@@ -27,4 +27,4 @@ IsDeviceOf o name = (o.end ≡ Told fault.Device) × Rose (o.old.log_faults name
 pub record WhyUnopened (room : RoomView) (name : List ℕ) (fault : Fault) : Type 0 where
   pub reason : OpenFault
   pub is : fault ≡ fault_of_opening reason
-  pub so : room.tells ≡ true → IsUnopened journal_limits (log_bytes room name) reason
+  pub so : room.tells ≡ true → IsUnopened (journal_limits room) (log_bytes room name) reason

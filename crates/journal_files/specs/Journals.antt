@@ -2,7 +2,7 @@
 use Rattle.std.specs.Prelude.{◌≡◌, ◌≢◌, ℕ, ◌+◌, ◌≤◌, max, true, List, [], ◌∷◌, ◌++◌, length, take, Option, Some, None, is_some}
 use Rattle.marc_types.specs.declared.entry.Entry.{Entry}
 use Rattle.marc_types.specs.declared.entry.Limits.{Limits}
-use Rattle.marc_types.specs.Limits.{greatest_limits}
+use Rattle.marc_types.specs.Limits.{limits_of}
 use Rattle.outside.specs.Disk.{DiskView, SameDisk, OnlyContent}
 use Rattle.outside.specs.Fault.{Rose}
 use Rattle.outside.specs.Room.{RoomView, AsLog, SameBut, IsUntouched, bytes_or_none}
@@ -20,9 +20,9 @@ use Rattle.durable_catalogue.specs.Refused.{LeavesAlone}
 use Rattle.durable_catalogue.specs.Durables.{Opening, IsLeft, marked}
 use Rattle.durable_catalogue.specs.Views.{DurableView}
 
--- the most that a history has: entries, and bytes
-abbrev pub journal_limits : Limits
-journal_limits = greatest_limits
+-- the most that a history has in a room: entries, and bytes
+abbrev pub journal_limits : RoomView → Limits
+journal_limits room = limits_of room.is_large
 
 -- the bytes of the log of that name, none where there is no such file
 abbrev pub log_bytes : RoomView → List ℕ → List ℕ
@@ -36,18 +36,18 @@ IsHistoryIn room name entries = room.tells ≡ true → HasHistory entries (log_
 abbrev pub IsHistoryOn : DiskView → List Entry → Type 0
 IsHistoryOn disk entries = (log : List ℕ) → disk.content ≡ Some log → HasHistory entries log
 
--- the log has a history, and it is within the limits
-abbrev pub HasFittingHistory : List ℕ → Type 0
-HasFittingHistory log = ∥ ((entries : List Entry) × IsLogOf entries log × IsWithin journal_limits entries) ∥₁
+-- the log has a history, and it is within the room's limits
+abbrev pub HasFittingHistory : RoomView → List ℕ → Type 0
+HasFittingHistory room log = ∥ ((entries : List Entry) × IsLogOf entries log × IsWithin (journal_limits room) entries) ∥₁
 
 -- A catalogue of these entries was opened over the log of that name in a room. Its opening left the log no longer than it was, or than a
 -- blank one; its time begins with the log's; and it synced, where the log tells its moments.
 pub record IsOpenedFrom (room : RoomView) (name : List ℕ) (entries : List Entry) (mark : Option (List Entry)) (o : Opening) : Type 0 where
   pub history : IsHistoryIn room name entries
   pub version : room.tells ≡ true → version_of (log_bytes room name) ≡ 2
-  pub within : IsWithin journal_limits entries
+  pub within : IsWithin (journal_limits room) entries
   pub unmarked : mark ≡ None
-  pub limits : o.origin.limits ≡ journal_limits
+  pub limits : o.origin.limits ≡ journal_limits room
   pub run : o.origin.run ≡ next_run entries
   pub opened : o.opened ≡ length entries
   pub length : room.tells ≡ true → o.length ≤ max BLANK_LENGTH (length (log_bytes room name))
@@ -140,14 +140,14 @@ pub record IsRefusedLog (old new : RoomView) (name : List ℕ) (why : OpenFault)
   pub closed : new.open_as name ≡ None
   pub keeps : old.tells ≡ true → KeepsHistory (why ≡ DeviceFault) old new name
   pub kept : old.tells ≡ true → why ≢ DeviceFault → log_bytes new name ≡ log_bytes old name
-  pub so : old.tells ≡ true → IsUnopened journal_limits (log_bytes old name) why
+  pub so : old.tells ≡ true → IsUnopened (journal_limits old) (log_bytes old name) why
   pub cause : why ≡ DeviceFault → Rose (old.log_faults name) (new.log_faults name)
 
 -- A log that was refused as this disk, and closed, keeps its history wherever it had just been opened and the opening left it as a refusal
 -- does.
 abbrev pub KeepsRefused : {R L : Type 0} → (R → RoomView) → (L → DiskView) → R → R → List ℕ → L → OpenFault → OpenFault → Type 0
 KeepsRefused {R} {L} seen log_seen old new name refused why answer = (before : R) (opened : L) → IsJustOpened (seen before) (seen old) name (log_seen opened)
-    → IsRefusedDisk journal_limits (log_seen opened) (log_seen refused) why → IsRefusedLog (seen before) (seen new) name answer
+    → IsRefusedDisk (journal_limits (seen before)) (log_seen opened) (log_seen refused) why → IsRefusedLog (seen before) (seen new) name answer
 
 -- A catalogue was closed as the log of that name, where the room tells and the log told when it was opened, as that disk.
 abbrev pub IsClosedOver : DiskView → RoomView → RoomView → List ℕ → DurableView → Type 0

@@ -7,7 +7,7 @@ ghost use Rattle.durable_catalogue.specs.Logs.{HasHistory};
 ghost use Rattle.entry_record.specs.History.{IsWithin};
 ghost use Rattle.journal_files.specs.Journals.{journal_limits, log_bytes, IsClosedDisk, IsOpenLog, IsRefusedLog};
 
-use crate::{JOURNAL_LIMITS, close_refused};
+use crate::{close_refused, limits_of};
 use durable_catalogue::{OnClose, OpenFault, RecoveredReadOnly};
 use outside::Room;
 use std::alloc::Global;
@@ -22,19 +22,20 @@ pub fn open_archive<R: Room>(
     requires { (R.seen room.old).open_as name.now ≡ None }
     ensures apart { SameBut (R.seen room.old) (R.seen room.new) (name.now ∷ []) }
 
-    // The catalogue has the log's history, within the limits, and the log keeps it.
+    // The catalogue has the log's history, within the room's limits, and the log keeps it.
     ensures log { IfOk result (λ a. IsOpenLog (R.seen room.old) (R.seen room.new) name.now (number_of a.journal.version) (R.Log.seen a.journal.disk)) }
     ensures history { IfOk result (λ a. (R.seen room.old).tells ≡ true → HasHistory a.core.history (log_bytes (R.seen room.old) name.now)) }
-    ensures within { IfOk result (λ a. IsWithin journal_limits a.core.history) }
+    ensures within { IfOk result (λ a. IsWithin (journal_limits (R.seen room.old)) a.core.history) }
 
     // A log that is refused keeps its history.
     ensures refused { IfErr result (IsRefusedLog (R.seen room.old) (R.seen room.new) name.now) }
     ensures current { IfErr result (λ fault. fault ≢ OldVersion) }
 {
+    let limits = limits_of(room);
     let Ok(log) = room.open_log(name) else {
         return Err(OpenFault::DeviceFault);
     };
-    match RecoveredReadOnly::open(alloc, log, JOURNAL_LIMITS) {
+    match RecoveredReadOnly::open(alloc, log, limits) {
         Ok(archive) => Ok(archive),
         Err(refused) => Err(close_refused(room, name, refused)),
     }

@@ -6,7 +6,7 @@ ghost use Rattle.durable_catalogue.specs.declared.fault.OpenFault.TheVariants.{O
 ghost use Rattle.journal_files.specs.Journals.{journal_limits, IsHistoryIn, IsClosedDisk, IsOpenLog, IsRefusedLog};
 ghost use Rattle.journal_files.specs.Taking.{IsHandedOn};
 
-use crate::journal::JOURNAL_LIMITS;
+use crate::journal::limits_of;
 use crate::refused::close_refused;
 use crate::scan::JournalScan;
 use durable_catalogue::{EntryTaker, OpenFault};
@@ -26,18 +26,19 @@ pub fn open_history<R: Room, T: EntryTaker>(
     requires none { T.has taker.old taker.old [] }
     ensures apart { SameBut (R.seen room.old) (R.seen room.new) (name.now ∷ []) }
 
-    // All entries of the log's history were handed on; they are within the limits, and the log keeps them.
-    ensures taken { OnOk result (IsHandedOn (T.has taker.old taker.new) (IsHistoryIn (R.seen room.old) name.now) journal_limits) }
+    // All entries of the log's history were handed on; they are within the room's limits, and the log keeps them.
+    ensures taken { OnOk result (IsHandedOn (T.has taker.old taker.new) (IsHistoryIn (R.seen room.old) name.now) (journal_limits (R.seen room.old))) }
     ensures log { IfOk result (λ h. IsOpenLog (R.seen room.old) (R.seen room.new) name.now (number_of h.journal.version) (R.Log.seen h.journal.disk)) }
 
     // A log that is refused keeps its history.
     ensures refused { IfErr result (IsRefusedLog (R.seen room.old) (R.seen room.new) name.now) }
     ensures current { IfErr result (λ fault. fault ≢ OldVersion) }
 {
+    let limits = limits_of(room);
     let Ok(log) = room.open_log(name) else {
         return Err(OpenFault::DeviceFault);
     };
-    match JournalScan::open(alloc, log, JOURNAL_LIMITS, taker) {
+    match JournalScan::open(alloc, log, limits, taker) {
         Ok(history) => Ok(history),
         Err(refused) => Err(close_refused(room, name, refused)),
     }

@@ -5,7 +5,7 @@ ghost use Rattle.durable_catalogue.specs.declared.fault.OpenFault.TheVariants.{F
 ghost use Rattle.commit_journal.specs.Log.{version_of};
 ghost use Rattle.durable_catalogue.specs.Durables.{mark_of};
 ghost use Rattle.durable_catalogue.specs.Views.{durable_view};
-ghost use Rattle.journal_files.specs.Journals.{log_bytes, IsOpenedAs, IsClosedOver, HasMarkCause, IsRefusedLog};
+ghost use Rattle.journal_files.specs.Journals.{journal_limits, log_bytes, IsOpenedAs, IsClosedOver, HasMarkCause, IsRefusedLog};
 
 use crate::close_refused;
 use durable_catalogue::{Durable, OnClose, OpenFault};
@@ -13,10 +13,15 @@ use marc_types::Limits;
 use outside::Room;
 use std::alloc::Global;
 
-/// The most that a history has: entries, and bytes.
-pub const JOURNAL_LIMITS: Limits = Limits::GREATEST;
+/// The most that a history in this room has: 1,048,576 entries of 536,870,912 bytes in all, and where the room is large 134,217,728
+/// entries of 137,438,953,472 bytes.
+pub fn limits_of<R: Room>(room: &R) -> Limits
+    ensures { result ≡ journal_limits (R.seen room.now) }
+{
+    Limits::of(room.is_large())
+}
 
-/// Opens the file of that name as a catalogue's log. A fault closes it again.
+/// Opens the file of that name as a catalogue's log, within the room's limits. A fault closes it again.
 #[tactic(auto, using(crate::proofs::Journals::unopened_log))]
 pub fn open_journal<R: Room>(
     alloc: Global,
@@ -34,10 +39,11 @@ pub fn open_journal<R: Room>(
     ensures old_first { IfErr result (λ fault. fault ≡ Full → (R.seen room.old).tells ≡ true →
         version_of (log_bytes (R.seen room.old) name.now) ≡ 2) }
 {
+    let limits = limits_of(room);
     let Ok(log) = room.open_log(name) else {
         return Err(OpenFault::DeviceFault);
     };
-    match Durable::open(alloc, log, JOURNAL_LIMITS) {
+    match Durable::open(alloc, log, limits) {
         Ok(durable) => Ok(durable),
         Err(refused) => Err(close_refused(room, name, refused)),
     }

@@ -6,7 +6,7 @@ pub use durable_catalogue::EntryTaker;
 pub use entries::HistoryEntries;
 pub use fault::fault_of_opening;
 pub use history::{close_history, open_history};
-pub use journal::{JOURNAL_LIMITS, close_journal, open_journal};
+pub use journal::{close_journal, limits_of, open_journal};
 pub use refused::close_refused;
 pub use scan::JournalScan;
 

@@ -1,5 +1,5 @@
 -- What stands outside a part, without the `$0` of a key, is what is left of a field's other subfields without the part.
-use Rattle.std.proofs.Common.{◌≡◌, ℕ, ◌+◌, ◌≤◌, Bool, true, false, not, cond, filter, List, [], ◌∷◌, ◌++◌, Option, Some, None, refl, ap, arith, if◌then◌else◌}
+use Rattle.std.proofs.Common.{◌≡◌, ℕ, ◌+◌, ◌≤◌, Bool, true, false, not, cond, filter, List, [], ◌∷◌, Option, Some, None, refl, ap, arith}
 use Rattle.std.proofs.lemmas.List.Elements.{filter-append}
 use Rattle.marc_types.specs.declared.field.Subfield.{Subfield}
 use Rattle.marc_types.specs.declared.field.Field.{Field}
@@ -8,26 +8,13 @@ use Rattle.marc_types.specs.declared.key.Key.{Key}
 use Rattle.marc_types.specs.declared.form.Kind.{Kind}
 use Rattle.marc_types.specs.Fields.{subfields_of}
 use Rattle.marc_types.specs.Valid.{subfields_size, field_size}
-use Rattle.heading_fields.specs.Parts.{before, onward, is_dividing, region, behind, is_part, part, outside}
+use Rattle.heading_fields.specs.Parts.{is_dividing, region, behind, is_part, part, outside}
 use Rattle.heading_fields.specs.Numbers.{is_naming, unnumbered}
 use Rattle.heading_fields.proofs.Codes.{part_not_naming}
 use Rattle.heading_fields.proofs.Slices.{size_before}
 use Rattle.heading_fields.proofs.Sublaws.{size-append, size_filter}
 use Rattle.catalogue_rules.specs.Valid.{other_subfields}
-use Rattle.catalogue_rules.proofs.Sizes.{part_and_outside}
-
-cut : (test : Subfield → Bool) (xs : List Subfield) → before test xs ++ onward test xs ≡ xs
-cut test [] = refl
-cut test (x ∷ xs) = at (test x) (cut test xs)
-  where
-    at : (b : Bool) → before test xs ++ onward test xs ≡ xs → (if b then [] else x ∷ before test xs) ++ (if b then x ∷ xs else onward test xs) ≡ x ∷ xs
-    at true e = refl
-    at false e = rw e refl
-
-regions : (whole : Bool) (subs : List Subfield) → region whole subs ++ behind whole subs ≡ subs
-regions true [] = refl
-regions true (x ∷ xs) = rw (regions true xs) refl
-regions false subs = cut is_dividing subs
+use Rattle.catalogue_rules.proofs.Sizes.{regions, part_and_outside}
 
 -- of those that are kept, the ones of the part and the others
 split_at : (t p : Subfield → Bool) (x : Subfield) (xs ys : List Subfield) (b n : Bool) → p x ≡ b → t x ≡ n → (p x ≡ true → t x ≡ false) →

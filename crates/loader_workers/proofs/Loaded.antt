@@ -200,9 +200,9 @@ module _ {O : Type 0} where
 
   -- a loader makes a turn for each entry at most, and a last one
   pub turned_whole : (replies : Replies) (start mid : FileView) (old pass new : Pass O Event) (counts : Counts) (refused : List RefusedItem)
-      → IsLoading replies start mid old pass counts refused → HasTurned pass new 1 → HasTurned old new (2 ^ 20 + 1)
+      → IsLoading replies start mid old pass counts refused → HasTurned pass new 1 → HasTurned old new (2 ^ 27 + 1)
   turned_whole replies start mid old pass new counts refused l turned =
-      turned_then old pass new counts.accepted 1 (2 ^ 20 + 1) l.turned turned (omega (arith, l.counted.few))
+      turned_then old pass new counts.accepted 1 (2 ^ 27 + 1) l.turned turned (omega (arith, l.counted.few))
 
   -- a commit answers no fault of the source
   pub no_read_fault : (replies : Replies) (batch : List Entry) (fault : Option FileEnd) (counts counts' : Counts) (pass new : Pass O Event) → AnswersAsCatalogue replies

@@ -22,7 +22,7 @@ pub record LoadsTask {O S C R Q A : Type 0} (replies : Replies) (left : S → Op
   pub loads : (origin : Origin) → CommitsAs replies origin
       → LoadsOneFile origin (unread (left old.file.source) (bound old.file.source) (faults old.file.source) old.file.code old.loader) (left new.file.source)
       old.pass new.pass result
-  pub pass : HasTurned old.pass new.pass (2 ^ 20 + 1)
+  pub pass : HasTurned old.pass new.pass (2 ^ 27 + 1)
   pub code : new.file.code ≡ old.file.code
   pub loader : new.loader ≡ old.loader
   pub faults_are : CountsFaults (faults old.file.source) (faults new.file.source) result.end

@@ -37,7 +37,7 @@ fn load_entries<
     requires fresh { entries.old.stream.given ≡ 0 }
     ensures loads { (origin : Origin) → CommitsAs (O.replies (O.origin shared.now.lock.now.opened)) origin
         → LoadsOneFile origin entries.old entries.new.stream.left pass.old pass.new result }
-    ensures pass { HasTurned pass.old pass.new (2 ^ 20 + 1) }
+    ensures pass { HasTurned pass.old pass.new (2 ^ 27 + 1) }
     ensures faults { CountsFaults entries.old.stream.faults entries.new.stream.faults result.end }
 {
     let mut refused = Vec::new(shared.alloc);
@@ -72,7 +72,7 @@ fn load_source<
     requires catalogue { IsCatalogue O.takes (O.replies (O.origin shared.now.lock.now.opened)) }
     ensures loads { (origin : Origin) → CommitsAs (O.replies (O.origin shared.now.lock.now.opened)) origin
         → LoadsOneFile origin (unread (S.left source) (S.bound source) (S.faults source) code.now loader) (S.left result.0) pass.old pass.new result.1 }
-    ensures pass { HasTurned pass.old pass.new (2 ^ 20 + 1) }
+    ensures pass { HasTurned pass.old pass.new (2 ^ 27 + 1) }
     ensures faults { CountsFaults (S.faults source) (S.faults result.0) result.1.end }
 {
     let library = match code.copy(shared.alloc) {

@@ -135,7 +135,7 @@ module _ (results : List FileResult) where
 
 module _ {S : Type 0} (left : S → Option (List ℕ)) (faults : S → ℕ) (room : RoomView) (journal : List ℕ) (libraries : List Library) (files after : List (InputFile S))
     (limits : Limits) (before entries : List Entry) (was mark : Option (List Entry)) (o : Opening)
-    (tells : room.tells ≡ true) (inputs : AreInputs left room libraries files) (same : limits ≡ journal_limits) (opened : IsOpenedFrom room journal before was o) where
+    (tells : room.tells ≡ true) (inputs : AreInputs left room libraries files) (same : limits ≡ journal_limits room) (opened : IsOpenedFrom room journal before was o) where
   opened_none : IsOpenedFrom room journal before None o
   opened_none = subst (λ m. IsOpenedFrom room journal before m o) opened.unmarked opened
 
@@ -174,7 +174,7 @@ module _ {S : Type 0} (left : S → Option (List ℕ)) (faults : S → ℕ) (roo
   closed_behind {new} added closed after = subst (λ es. IsClosedTo new journal es mark o) after closed
 
   within_behind : {new : RoomView} (added : List Entry) → IsClosedTo new journal entries mark o → entries ≡ before ++ added
-      → IsWithin journal_limits ((before ++ added) ++ marked mark)
+      → IsWithin (journal_limits room) ((before ++ added) ++ marked mark)
   within_behind {new} added closed after =
       subst (λ most. IsWithin most ((before ++ added) ++ marked mark)) opened.limits (subst (λ es. IsWithin o.origin.limits (es ++ marked mark)) after closed.left.within)
 

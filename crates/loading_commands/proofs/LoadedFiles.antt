@@ -40,7 +40,7 @@ module _ {S : Type 0} (left : S → Option (List ℕ)) (faults : S → ℕ) (roo
 
   module _ (before added : List Entry) (mark : Option (List Entry)) where
     unfoldable pub library_loaded : (loader : ℕ) (library : Library) (old new : InputFile S) (result : FileResult) → room.tells ≡ true → IsInputOf left room library old
-        → LoadsFile left faults journal_limits before added mark loader old new result → IsLibraryLoaded room before added mark library loader result
+        → LoadsFile left faults (journal_limits room) before added mark loader old new result → IsLibraryLoaded room before added mark library loader result
     library_loaded loader library old new result tells is did =
         let there = there_is (room.file library.file) (is.there tells) in
         let told = is.bytes tells ∙ there.1 in
@@ -65,7 +65,7 @@ module _ {S : Type 0} (left : S → Option (List ℕ)) (faults : S → ℕ) (roo
 
     -- each library's file was loaded
     unfoldable pub libraries_loaded : (loader : ℕ) (libraries : List Library) (old new : List (InputFile S)) (results : List FileResult) → room.tells ≡ true
-        → AreInputs left room libraries old → EachLoaded left faults journal_limits before added mark loader old new results
+        → AreInputs left room libraries old → EachLoaded left faults (journal_limits room) before added mark loader old new results
         → AreLibrariesLoaded room before added mark loader libraries results
     libraries_loaded _ _ _ _ _ tells NoInput (NoFile loader) = NoLibrary loader
     libraries_loaded _ _ _ _ _ tells (OneInput ls is l i one are) (OneMore loader fs bs rs o n r did each) =
@@ -73,7 +73,7 @@ module _ {S : Type 0} (left : S → Option (List ℕ)) (faults : S → ℕ) (roo
 
     -- and was read as far as its input gave it
     pub libraries_read : (loader : ℕ) (libraries : List Library) (old new : List (InputFile S)) (results : List FileResult) (tells : room.tells ≡ true)
-        → (are : AreInputs left room libraries old) → (each : EachLoaded left faults journal_limits before added mark loader old new results)
+        → (are : AreInputs left room libraries old) → (each : EachLoaded left faults (journal_limits room) before added mark loader old new results)
         → AreReadTo (libraries_loaded loader libraries old new results tells are each) (lefts_of_inputs left new)
     unfolding libraries_loaded library_loaded
     libraries_read _ _ _ _ _ tells NoInput (NoFile loader) = tt

@@ -4,6 +4,7 @@ use Rattle.std.specs.Prelude.{nat_lt}
 use Rattle.std.specs.Prelude.{if◌then◌else◌}
 use Rattle.std.specs.List.{AllByRecursion}
 use Rattle.marc_types.specs.declared.entry.Entry.{Entry}
+use Rattle.marc_types.specs.declared.entry.Limits.{Limits}
 use Rattle.marc_types.specs.declared.entry.Receipt.{Receipt}
 use Rattle.outside.specs.Room.{RoomView}
 use Rattle.command_words.specs.declared.library.Library.{Library}
@@ -21,7 +22,6 @@ use Rattle.loader_workers.specs.declared.file_end.FileEnd.{FileEnd}
 use Rattle.loader_workers.specs.declared.file_end.FileEnd.TheVariants as end
 use Rattle.loader_workers.specs.declared.result.FileResult.{FileResult}
 use Rattle.loader_workers.specs.Files.{IsFileLoaded, IsEndOfFile}
-use Rattle.journal_files.specs.Journals.{journal_limits}
 use Rattle.loading_commands.specs.Outcomes.{AreLibrariesLoaded, NoLibrary, OneLibrary, ends_so, any_ends, loading_fault}
 use Rattle.loading_commands.specs.Merged.{AreJudged, NoFile, OneFile}
 use Rattle.loading_commands.specs.Console.{refused_part, totals_part, any_refused}
@@ -90,11 +90,11 @@ same_totals : (r : FileResult) (front : List Entry) (receipts : List Receipt) �
     → totals_in r ≡ totals_of front r.refused receipts
 same_totals r front receipts accepted sums = λ i. record { accepted = accepted i; refused = length r.refused; sums = sums i }
 
-whole_file : (before added : List Entry) (code bytes : List ℕ) (loader : ℕ) (r : FileResult) → r.end ≡ end.Done
-    → IsFileLoaded journal_limits before added None code bytes loader r → Whole before added code bytes loader r
-whole_file before added code bytes loader r is f =
-    let ends : IsEndOfFile journal_limits (before ++ added) (next_run before) None end.Done (f.next ++ f.more) f.coming =
-    subst (λ e. IsEndOfFile journal_limits (before ++ added) (next_run before) None e (f.next ++ f.more) f.coming) is f.ends in
+whole_file : (limits : Limits) (before added : List Entry) (code bytes : List ℕ) (loader : ℕ) (r : FileResult) → r.end ≡ end.Done
+    → IsFileLoaded limits before added None code bytes loader r → Whole before added code bytes loader r
+whole_file limits before added code bytes loader r is f =
+    let ends : IsEndOfFile limits (before ++ added) (next_run before) None end.Done (f.next ++ f.more) f.coming =
+    subst (λ e. IsEndOfFile limits (before ++ added) (next_run before) None e (f.next ++ f.more) f.coming) is f.ends in
     let all : items bytes ≡ f.done = f.split ∙ ap (λ c. f.done ++ c) ends.1 ∙ append-nil f.done in
     let front : f.front ++ f.next ++ f.more ≡ f.front = append_assoc f.front f.next f.more ∙ ap (λ c. f.front ++ c) ends.0 ∙ append-nil f.front in
     record {
@@ -120,7 +120,7 @@ module _ (room : RoomView) (before added : List Entry) where
   }
   merges _ _ _ (OneLibrary loader libraries results l r one more) (is, done) =
       let rest = merges (loader + 1) libraries results more done in
-      let w = whole_file before added l.code one.bytes loader r is one.loaded in
+      let w = whole_file _ before added l.code one.bytes loader r is one.loaded in
       record {
         accepted = w.front ∷ rest.accepted;
         refused = r.refused ∷ rest.refused;

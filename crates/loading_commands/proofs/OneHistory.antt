@@ -39,7 +39,7 @@ whole_history entries image holds = ∥∥₁_map holds (λ r. whole_is entries 
 module _ (old new : RoomView) (journal : List ℕ) (libraries : List Library) (before added : List Entry) (o : Opening) (results : List FileResult)
     (tells : old.tells ≡ true) (opened : IsOpenedFrom old journal before None o) (closed : IsClosedTo new journal (before ++ added) None o)
     (made : Merges old before added 0 libraries results) (loaders : All (λ (e : Entry). e.loader < length libraries) added)
-    (within : IsWithin journal_limits (before ++ added)) where
+    (within : IsWithin (journal_limits old) (before ++ added)) where
   first_sync : (s : ℕ) → (new.log journal).dated ≡ true → (new.log journal).synced 0 ≡ Some s → o.synced ≡ Some s
   first_sync s dated synced =
       let first = some_of o.synced (opened.synced (sym closed.left.dated ∙ dated)) in
@@ -113,7 +113,7 @@ merged_behind old new journal libraries d results within w closing tells =
           accepted = made.accepted;
           refused = made.refused;
           history = one_history old new journal libraries w.before w.added o results tells w.opened closed made loaders
-              (subst (λ es. IsWithin journal_limits es) w.entries_are (subst (λ limits. IsWithin limits d.entries) w.opened.limits within));
+              (subst (λ es. IsWithin (journal_limits old) es) w.entries_are (subst (λ limits. IsWithin limits d.entries) w.opened.limits within));
         };
         entries_are = w.entries_are;
         text_is = ap (λ text. text ++ totals_text libraries results) made.refused_is ∙ ap (λ text. refused_part libraries made.refused ++ text) made.totals_is;

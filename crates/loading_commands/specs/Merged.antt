@@ -34,7 +34,7 @@ pub record IsOneHistory (old new : RoomView) (journal : List ℕ) (libraries : L
   pub judged : AreJudged old 0 libraries accepted refused
   pub merged : IsMerged before accepted added
   -- all of it is within the journal's limits
-  pub within : IsWithin journal_limits (before ++ added)
+  pub within : IsWithin (journal_limits old) (before ++ added)
   -- what it is, in the file and in each image that a crash now may leave
   pub closed : new.has_log journal ≡ true
   pub there : is_some (new.file journal) ≡ true

@@ -31,7 +31,7 @@ use Rattle.loading_commands.specs.Inputs.{IsProper, IsInputFault, AreInputs, IsF
 pub record IsLibraryLoaded (room : RoomView) (before added : List Entry) (mark : Option (List Entry)) (library : Library) (loader : ℕ) (result : FileResult) : Type 0 where
   pub bytes : List ℕ
   pub there : room.file library.file ≡ Some bytes
-  pub loaded : IsFileLoaded journal_limits before added mark library.code bytes loader result
+  pub loaded : IsFileLoaded (journal_limits room) before added mark library.code bytes loader result
 
 -- each was, by the loader with its number, the first of these by `loader`
 pub data AreLibrariesLoaded (room : RoomView) (before added : List Entry) (mark : Option (List Entry)) : (loader : ℕ) → List Library → List FileResult → Type 0 where
@@ -105,7 +105,7 @@ pub record IsLoadedInPart (old new : RoomView) (journal : List ℕ) (libraries :
   pub unmarked : why ≢ fault.Device → mark ≡ None
   pub closed : IsClosedTo new journal (before ++ added) mark o
   -- all of it is within the journal's limits, that frame included
-  pub within : IsWithin journal_limits ((before ++ added) ++ marked mark)
+  pub within : IsWithin (journal_limits old) ((before ++ added) ++ marked mark)
   pub lefts : List (Option (List ℕ))
   pub lefts_are : new.lefts ≡ lefts ++ old.lefts
   pub read_to : AreReadTo loaded.files lefts
@@ -121,7 +121,7 @@ pub record AreUnread (old new : RoomView) (libraries : List Library) : Type 0 wh
 -- an input isn't opened, or there is no memory to begin, and the journal was opened and closed again with nothing added, and nothing read
 -- of the inputs.
 pub data IsUnbegun (old new : RoomView) (journal : List ℕ) (libraries : List Library) (why : Fault) : Type 0 where
-  Unopened : (of : OpenFault) → why ≡ fault_of_opening of → IsUnopened journal_limits (log_bytes old journal) of
+  Unopened : (of : OpenFault) → why ≡ fault_of_opening of → IsUnopened (journal_limits old) (log_bytes old journal) of
       → (of ≡ opening.Full → version_of (log_bytes old journal) ≡ 2) → KeepsHistory (of ≡ opening.DeviceFault) old new journal
       → IsUnbegun old new journal libraries why
   Unbegun : (before : List Entry) (o : Opening) → (why ≡ fault.Input) ⊎ (why ≡ fault.Memory) → IsOpenedFrom old journal before None o → IsClosedTo new journal before None o

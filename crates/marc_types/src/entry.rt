@@ -1,3 +1,6 @@
+ghost use Rattle.std.specs.Prelude.{◌≡◌};
+ghost use Rattle.marc_types.specs.Limits.{limits_of};
+
 use crate::copying::{NoMemory, TryCopy};
 use crate::key::{Class, Key};
 use crate::record::Record;
@@ -45,7 +48,7 @@ pub struct Receipt {
     pub changed_records: u64,
 }
 
-/// The most that a catalogue takes: entries, and bytes of all entries.
+/// The most that a catalogue takes: entries, and bytes of all entries. The numbers are this project's own.
 #[derive(Clone, Copy, Debug, PartialEq, Eq)]
 pub struct Limits {
     pub entries: u64,
@@ -53,11 +56,24 @@ pub struct Limits {
 }
 
 impl Limits {
-    /// The most that any catalogue takes: 1,048,576 entries, of 536,870,912 bytes in all.
-    pub const GREATEST: Limits = Limits {
+    /// What a catalogue takes by itself: 1,048,576 entries, of 536,870,912 bytes in all.
+    pub const PLAIN: Limits = Limits {
         entries: 1_048_576,
         bytes: 536_870_912,
     };
+
+    /// What a large catalogue takes, the most of any: 134,217,728 entries, of 137,438,953,472 bytes in all.
+    pub const LARGE: Limits = Limits {
+        entries: 134_217_728,
+        bytes: 137_438_953_472,
+    };
+
+    /// The limits of a catalogue, large or not.
+    pub fn of(large: bool) -> Limits
+        ensures { result ≡ limits_of large }
+    {
+        if large { Limits::LARGE } else { Limits::PLAIN }
+    }
 }
 
 /// Why a durable commit answers no receipt.

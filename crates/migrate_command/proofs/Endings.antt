@@ -91,7 +91,7 @@ module _ (from into : List ℕ) (o : Outcome) (result : Result ℕ Fault) (over 
     no_device : (name : List ℕ) → IsDeviceFaultOf o.old o.new name result → IsDeviceOf o name
     no_device name device = absurd (ok_not_err result count Device ok device.0)
 
-    left_alone : (entries : List Entry) → o.old.tells ≡ true → HasHistory entries (log_bytes o.old from) → IsUnfit journal_limits entries (log_bytes o.old into)
+    left_alone : (entries : List Entry) → o.old.tells ≡ true → HasHistory entries (log_bytes o.old from) → IsUnfit (journal_limits o.old) entries (log_bytes o.old into)
         → KeepsHistory (IsDeviceOf o into) o.old o.new into
     left_alone entries tells has none =
         keeps_where (IsDeviceFaultOf o.old o.new into result) (IsDeviceOf o into) o.old o.new into (no_device into)

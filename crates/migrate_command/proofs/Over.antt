@@ -22,7 +22,7 @@ use Rattle.journal_files.specs.Journals as journals
 use Rattle.journal_files.specs.Journals.{journal_limits, log_bytes, IsClosedDisk, KeepsHistory, KeepsLog, HasFittingHistory}
 use Rattle.journal_files.proofs.Faults.{opening_device}
 use Rattle.journal_files.proofs.Histories.{reading_once, fitting_history}
-use Rattle.journal_files.proofs.Journals.{closed_keeps, keeps_where, unopened_keeps}
+use Rattle.journal_files.proofs.Journals.{same_limits, closed_keeps, keeps_where, unopened_keeps}
 use Rattle.migrate_command.specs.Migrations.{IsFit, IsUnfit, IsUnmigrated, IsBrought}
 use Rattle.migrate_command.specs.Bringing as bringing
 use Rattle.migrate_command.specs.Bringing.{IsBroughtInto, IsUnbrought, Refused, IsDeviceFaultOf, IsBroughtOver}
@@ -30,6 +30,12 @@ use Rattle.migrate_command.specs.Migrates.{BringsInto, Unopened, IsSettledLog, U
 use Rattle.migrate_command.proofs.Endings.{ok_not_err, err_once}
 use Rattle.migrate_command.proofs.Rooms.{bytes_first, bytes_last, brings_across, images_across, settled_across, keeps_across}
 use mathlib.Core.HLevel.{⊥_prop}
+
+-- entries that are within a room's limits, and these are theirs, are within those of the room behind a call
+pub within_still : (old new : RoomView) (names : List (List ℕ)) (entries these : List Entry) → SameBut old new names → these ≡ entries
+    → IsWithin (journal_limits old) entries → IsWithin (journal_limits new) these
+within_still old new names entries these apart are within =
+    subst (λ l. IsWithin l these) (sym (same_limits old new names apart)) (subst (IsWithin (journal_limits old)) (sym are) within)
 
 -- the old log was not opened
 module _ (from into : List ℕ) (differ : into ≢ from) (old opened : RoomView) (apart : SameBut old opened (from ∷ [])) where
@@ -41,7 +47,7 @@ module _ (from into : List ℕ) (differ : into ≢ from) (old opened : RoomView)
   }
 
   pub over_unopened : (reason : OpenFault) (result : Result ℕ Fault) → result ≡ Err (fault_of_opening reason) → reason ≢ opening.OldVersion
-      → (old.tells ≡ true → IsUnopened journal_limits (log_bytes old from) reason)
+      → (old.tells ≡ true → IsUnopened (journal_limits old) (log_bytes old from) reason)
       → (old.tells ≡ true → KeepsHistory (reason ≡ opening.DeviceFault) old opened from)
       → (reason ≡ opening.DeviceFault → Rose (old.log_faults from) (opened.log_faults from)) → IsBroughtOver from into old opened result
   over_unopened reason result is current so keeps rose =
@@ -65,7 +71,7 @@ module _ (from into : List ℕ) (differ : into ≢ from) (old opened : RoomView)
 -- it was opened, its history was brought into the new one or not, and it was closed again
 module _ (from into : List ℕ) (differ : into ≢ from) (old opened brought closed : RoomView) (disk : DiskView) (history taken : List Entry) (version number : ℕ)
     (first : SameBut old opened (from ∷ [])) (second : SameBut opened brought (into ∷ [])) (last : SameBut brought closed (from ∷ []))
-    (same : history ≡ taken) (took : old.tells ≡ true → HasHistory taken (log_bytes old from)) (fitting : IsWithin journal_limits taken)
+    (same : history ≡ taken) (took : old.tells ≡ true → HasHistory taken (log_bytes old from)) (fitting : IsWithin (journal_limits old) taken)
     (is_number : version ≡ number) (numbered : old.tells ≡ true → version_of (log_bytes old from) ≡ number)
     (kept : old.tells ≡ true → KeepsLog (log_bytes old from) disk) (log : brought.tells ≡ true → IsClosedDisk disk closed from)
     (brings : (was : List ℕ) → opened.tells ≡ true → HasHistory history was → BringsInto history opened brought into) where
@@ -75,8 +81,11 @@ module _ (from into : List ℕ) (differ : into ≢ from) (old opened brought clo
   named : old.tells ≡ true → version_of (log_bytes old from) ≡ version
   named tells = numbered tells ∙ sym is_number
 
-  within : IsWithin journal_limits history
-  within = subst (IsWithin journal_limits) (sym same) fitting
+  within : IsWithin (journal_limits old) history
+  within = subst (IsWithin (journal_limits old)) (sym same) fitting
+
+  first_limits : journal_limits opened ≡ journal_limits old
+  first_limits = same_limits old opened (from ∷ []) first
 
   first_bytes : log_bytes opened into ≡ log_bytes old into
   first_bytes = bytes_first history old opened brought closed from into differ first last
@@ -88,10 +97,19 @@ module _ (from into : List ℕ) (differ : into ≢ from) (old opened brought clo
       ∣ subst P (reading_once history entries (log_bytes old from) too is) so ∣₁))
 
   -- what isn't fit for any history of the old log isn't for this one
-  unfit_any : (entries : List Entry) (log : List ℕ) → old.tells ≡ true → HasHistory entries (log_bytes old from) → IsUnfit journal_limits entries log
-      → IsUnfit journal_limits history log
+  unfit_any : (entries : List Entry) (log : List ℕ) → old.tells ≡ true → HasHistory entries (log_bytes old from)
+      → IsUnfit (journal_limits old) entries log → IsUnfit (journal_limits old) history log
   unfit_any entries log tells also none front fit =
-      ∥∥₁_elim (of_any entries (λ es. IsFit journal_limits es front log) tells also fit) ⊥_prop (λ (it : IsFit journal_limits entries front log). none front it)
+      ∥∥₁_elim (of_any entries (λ es. IsFit (journal_limits old) es front log) tells also fit) ⊥_prop
+      (λ (it : IsFit (journal_limits old) entries front log). none front it)
+
+  -- what the new log is fit for once the old one is opened it was fit for before
+  fit_first : (front : List Entry) → IsFit (journal_limits opened) history front (log_bytes opened into) → IsFit (journal_limits old) history front (log_bytes old into)
+  fit_first front fit =
+      subst (λ l. IsFit (journal_limits old) history front l) first_bytes (subst (λ l. IsFit l history front (log_bytes opened into)) first_limits fit)
+
+  unfit_first : IsUnfit (journal_limits old) history (log_bytes old into) → IsUnfit (journal_limits opened) history (log_bytes opened into)
+  unfit_first none front fit = none front (fit_first front fit)
 
   -- what has this history has any that the old log has
   has_any : (entries : List Entry) (bytes : List ℕ) → old.tells ≡ true → HasHistory entries (log_bytes old from) → HasHistory history bytes → HasHistory entries bytes
@@ -103,8 +121,8 @@ module _ (from into : List ℕ) (differ : into ≢ from) (old opened brought clo
   brought_any entries bytes tells also so = record { has = has_any entries bytes tells also so.has; newest = so.newest; ended = so.ended }
 
   -- and that is one that fits
-  fits : old.tells ≡ true → HasFittingHistory (log_bytes old from)
-  fits tells = fitting_history history (log_bytes old from) (has tells) within
+  fits : old.tells ≡ true → HasFittingHistory old (log_bytes old from)
+  fits tells = fitting_history old history (log_bytes old from) (has tells) within
 
   keeps_opened : (failed : Type 0) → old.tells ≡ true → KeepsHistory failed old closed from
   keeps_opened failed tells =
@@ -123,7 +141,7 @@ module _ (from into : List ℕ) (differ : into ≢ from) (old opened brought clo
     brings = brings_opened;
     alone = λ entries tells also none.
         let f = b.taken.fit (first.tells ∙ tells) in
-        absurd (unfit_any entries (log_bytes old into) tells also none f.0 (subst (λ l. IsFit journal_limits history f.0 l) first_bytes f.1));
+        absurd (unfit_any entries (log_bytes old into) tells also none f.0 (fit_first f.0 f.1));
     kept = λ why err. absurd (ok_not_err result count why is err);
     settled = λ why err. absurd (ok_not_err result count why is err);
     refused = λ why err. absurd (ok_not_err result count why is err);
@@ -132,8 +150,7 @@ module _ (from into : List ℕ) (differ : into ≢ from) (old opened brought clo
     version = λ n ok tells. named tells ∙ b.oldest;
     fit = λ n entries ok tells also.
         let f = b.taken.fit (first.tells ∙ tells) in
-        of_any entries (λ es. (front : List Entry) × IsFit journal_limits es front (log_bytes old into)) tells also
-        (f.0, subst (λ l. IsFit journal_limits history f.0 l) first_bytes f.1);
+        of_any entries (λ es. (front : List Entry) × IsFit (journal_limits old) es front (log_bytes old into)) tells also (f.0, fit_first f.0 f.1);
     all = λ n entries ok tells also. (counted n entries ok tells also, all_brought entries tells also);
     durable = λ n entries ok tells also.
         let left = images_brought tells in record {
@@ -206,8 +223,7 @@ module _ (from into : List ℕ) (differ : into ≢ from) (old opened brought clo
     alone = λ entries tells also none.
         keeps_where (why ≡ Device) (IsDeviceFaultOf old closed into result) old closed into (λ device. (is ∙ ap Err device, risen device))
         (keeps_across history old opened brought closed from into differ first last (why ≡ Device)
-        (t.alone (log_bytes old from) (first.tells ∙ tells) (has tells)
-        (subst (IsUnfit journal_limits history) (sym first_bytes) (unfit_any entries (log_bytes old into) tells also none))));
+        (t.alone (log_bytes old from) (first.tells ∙ tells) (has tells) (unfit_first (unfit_any entries (log_bytes old into) tells also none))));
     kept = still why result is unchanged;
     settled = settled_still why result is settled;
     refused = λ w err. inr (record {
@@ -215,7 +231,12 @@ module _ (from into : List ℕ) (differ : into ≢ from) (old opened brought clo
       is = err_once result w why err is ∙ t.is;
       oldest = λ tells. named tells ∙ oldest;
       history = fits;
-      so = λ tells. (history, has tells, subst (λ l. IsUnmigrated journal_limits history l t.reason) first_bytes (t.so (first.tells ∙ tells)));
+      so = λ tells. (
+        history,
+        has tells,
+        subst (λ l. IsUnmigrated (journal_limits old) history l t.reason) first_bytes
+            (subst (λ l. IsUnmigrated l history (log_bytes opened into) t.reason) first_limits (t.so (first.tells ∙ tells))),
+      );
     });
     device = λ err. inr (risen (err_once result why Device is err));
     history = λ count ok. absurd (ok_not_err result count why ok is);

@@ -2,6 +2,7 @@
 use Rattle.std.proofs.Common.{◌≡◌, ◌≢◌, ◌⊎◌, ◌∙◌, inl, inr, ⊎_elim, ℕ, ◌≤◌, true, List, [], ◌∷◌, Some, is_some, sym, ap, subst}
 use Rattle.std.proofs.Math.Logic.{∥∥₁_map}
 use Rattle.marc_types.specs.declared.entry.Entry.{Entry}
+use Rattle.marc_types.specs.declared.entry.Limits.{Limits}
 use Rattle.outside.specs.Disk.{DiskView, OnlyContent, SameDisk}
 use Rattle.outside.specs.Fault.{Rose, count_sum}
 use Rattle.outside.specs.Room.{RoomView, SameBut, IsUntouched, bytes_or_none}
@@ -14,27 +15,32 @@ use Rattle.durable_catalogue.proofs.Keeping.{some_of}
 use Rattle.durable_catalogue.proofs.Readings.{same_log}
 use Rattle.journal_files.specs.Journals as journals
 use Rattle.journal_files.specs.Journals.{journal_limits, log_bytes, IsClosedDisk, KeepsHistory}
-use Rattle.journal_files.proofs.Journals.{IsTimed, settled_now, closed_history}
+use Rattle.journal_files.proofs.Journals.{same_limits, IsTimed, settled_now, closed_history}
 use Rattle.migrate_command.specs.declared.fault.MigrateFault.{MigrateFault}
 use Rattle.migrate_command.specs.declared.fault.MigrateFault.TheVariants as migrating
 use Rattle.migrate_command.specs.Migrations.{IsFit, IsUnfit, LeavesRefused, LeavesUnfitAlone, IsBrought, IsMigration, IsAmid}
 use Rattle.migrate_command.specs.Migrates.{BringsInto, Unopened, Opened, IsAmidInto, IsSettledLog, Untouched, Settled, HasInEachImage}
 
--- a log was opened as a disk, into which a history was brought, and the disk was closed as the log
+-- a log was opened as a disk, into which a history was brought within these limits, the room's, and the disk was closed as the log
 module _ (history : List Entry) (old new : RoomView) (name : List ℕ) (before disk : DiskView) (told : before.content ≡ Some (log_bytes old name))
-    (file : new.file name ≡ disk.content) (m : IsMigration journal_limits history before disk) where
+    (file : new.file name ≡ disk.content) (limits : Limits) (are : limits ≡ journal_limits old) (m : IsMigration limits history before disk) where
   -- its bytes now
   told_now : (now : List ℕ) × (disk.content ≡ Some now)
   told_now = some_of disk.content (m.tells ∙ ap is_some told)
+
+  of_room : (entries : List Entry) (c : List ℕ) → ∥ IsAmid (IsFit limits history entries (log_bytes old name)) history entries (log_bytes old name) c ∥₁
+      → IsAmidInto history entries old name c
+  of_room entries c amid = subst (λ l. ∥ IsAmid (IsFit l history entries (log_bytes old name)) history entries (log_bytes old name) c ∥₁) are amid
 
   pub brings_into : before.moment ≡ 0 → new.has_log name ≡ true → SameDisk disk (new.log name) → BringsInto history old new name
   brings_into begins is_log same =
       let unchanged = same.unchanged in
       Opened is_log
       (λ entries s c has synced left.
-      m.images s (log_bytes old name) c entries (ap disk.synced begins ∙ sym (unchanged.syncs 0) ∙ synced) told ((unchanged.lefts s c).0 left) has)
+      of_room entries c (m.images s (log_bytes old name) c entries (ap disk.synced begins ∙ sym (unchanged.syncs 0) ∙ synced) told ((unchanged.lefts s c).0 left) has))
       (λ entries has.
-      subst (λ o. IsAmidInto history entries old name (bytes_or_none o)) (sym (file ∙ told_now.1)) (m.content (log_bytes old name) told_now.0 entries told told_now.1 has))
+      subst (λ o. IsAmidInto history entries old name (bytes_or_none o)) (sym (file ∙ told_now.1))
+      (of_room entries told_now.0 (m.content (log_bytes old name) told_now.0 entries told told_now.1 has)))
       (λ dated none.
       ap bytes_or_none file
       ∙ ap bytes_or_none (m.unsynced (sym m.dated ∙ sym unchanged.dated ∙ dated) (ap disk.synced begins ∙ sym (unchanged.syncs 0) ∙ none) ∙ told))
@@ -43,9 +49,9 @@ module _ (history : List Entry) (old new : RoomView) (name : List ℕ) (before d
   all_into all = subst (λ o. IsBrought history (bytes_or_none o)) (sym (file ∙ told_now.1)) (all told_now.0 told_now.1)
 
   -- a log that isn't fit keeps what it has
-  pub alone_into : before.moment ≡ 0 → IsClosedDisk disk new name → IsTimed disk → (fault : MigrateFault) → LeavesUnfitAlone journal_limits history fault before disk
+  pub alone_into : before.moment ≡ 0 → IsClosedDisk disk new name → IsTimed disk → (fault : MigrateFault) → LeavesUnfitAlone limits history fault before disk
       → (fault ≢ migrating.DeviceFault → OnlyContent disk ⊎ ((fault ≡ migrating.NoMemory) × SameDisk before disk))
-      → IsUnfit journal_limits history (log_bytes old name) → KeepsHistory (fault ≡ migrating.DeviceFault) old new name
+      → IsUnfit (journal_limits old) history (log_bytes old name) → KeepsHistory (fault ≡ migrating.DeviceFault) old new name
   alone_into begins closed timed fault alone settled unfit =
       closed_history old new name disk closed (fault ≡ migrating.DeviceFault)
       (subst (λ o. LeavesAlone (fault ≡ migrating.DeviceFault) log (bytes_or_none o)) (sym told_now.1) content)
@@ -58,7 +64,7 @@ module _ (history : List Entry) (old new : RoomView) (name : List ℕ) (before d
       log = log_bytes old name
 
       left : LeavesRefused fault log before disk
-      left = alone log told unfit
+      left = alone log told (subst (λ l. IsUnfit l history log) (sym are) unfit)
 
       content : LeavesAlone (fault ≡ migrating.DeviceFault) log told_now.0
       content = left.content told_now.0 told_now.1
@@ -99,7 +105,10 @@ module _ (history : List Entry) (old opened brought closed : RoomView) (from int
   bytes_last = ap bytes_or_none (last.files into (differ, tt))
 
   amid_first : (entries : List Entry) (c : List ℕ) → IsAmidInto history entries opened into c → IsAmidInto history entries old into c
-  amid_first entries c amid = subst (λ log. ∥ IsAmid (IsFit journal_limits history entries log) history entries log c ∥₁) bytes_first amid
+  amid_first entries c amid =
+      subst (λ log. ∥ IsAmid (IsFit (journal_limits old) history entries log) history entries log c ∥₁) bytes_first
+      (subst (λ l. ∥ IsAmid (IsFit l history entries (log_bytes opened into)) history entries (log_bytes opened into) c ∥₁)
+      (same_limits old opened (from ∷ []) first) amid)
 
   has_first : (entries : List Entry) → HasHistory entries (log_bytes old into) → HasHistory entries (log_bytes opened into)
   has_first entries has = subst (λ bytes. HasHistory entries bytes) (sym bytes_first) has

@@ -15,7 +15,7 @@ use Rattle.migrate_command.specs.Migrates.{BringsInto, IsSettledLog, HasInEachIm
 
 -- a history was brought into the log of that name
 pub record IsTakenInto (history : List Entry) (old new : RoomView) (into : List ℕ) : Type 0 where
-  pub fit : old.tells ≡ true → (entries : List Entry) × IsFit journal_limits history entries (log_bytes old into)
+  pub fit : old.tells ≡ true → (entries : List Entry) × IsFit (journal_limits old) history entries (log_bytes old into)
   pub all : (was : List ℕ) → old.tells ≡ true → HasHistory history was → IsBrought history (log_bytes new into)
   pub durable : (was : List ℕ) → old.tells ≡ true → HasHistory history was → HasInEachImage history new into
 
@@ -23,8 +23,8 @@ pub record IsTakenInto (history : List Entry) (old new : RoomView) (into : List 
 pub record IsNotTaken (history : List Entry) (old new : RoomView) (into : List ℕ) (fault : Fault) : Type 0 where
   pub reason : MigrateFault
   pub is : fault ≡ fault_of_migrating reason
-  pub so : old.tells ≡ true → IsUnmigrated journal_limits history (log_bytes old into) reason
-  pub alone : (was : List ℕ) → old.tells ≡ true → HasHistory history was → IsUnfit journal_limits history (log_bytes old into)
+  pub so : old.tells ≡ true → IsUnmigrated (journal_limits old) history (log_bytes old into) reason
+  pub alone : (was : List ℕ) → old.tells ≡ true → HasHistory history was → IsUnfit (journal_limits old) history (log_bytes old into)
       → KeepsHistory (fault ≡ Device) old new into
   pub rose : fault ≡ Device → Rose (old.log_faults into) (new.log_faults into)
 
@@ -46,16 +46,16 @@ IsDeviceFaultOf old new name result = (result ≡ Err Device) × Rose (old.log_f
 pub record IsBroughtOver (from into : List ℕ) (old new : RoomView) (result : Result ℕ Fault) : Type 0 where
   pub keeps : old.tells ≡ true → KeepsHistory (IsDeviceFaultOf old new from result) old new from
   pub brings : (entries : List Entry) → old.tells ≡ true → HasHistory entries (log_bytes old from) → ∥ BringsInto entries old new into ∥₁
-  pub alone : (entries : List Entry) → old.tells ≡ true → HasHistory entries (log_bytes old from) → IsUnfit journal_limits entries (log_bytes old into)
+  pub alone : (entries : List Entry) → old.tells ≡ true → HasHistory entries (log_bytes old from) → IsUnfit (journal_limits old) entries (log_bytes old into)
       → KeepsHistory (IsDeviceFaultOf old new into result) old new into
   pub kept : (why : Fault) → result ≡ Err why → why ≢ Device → old.tells ≡ true → log_bytes new into ≡ log_bytes old into
   pub settled : (why : Fault) → result ≡ Err why → why ≢ Device → old.tells ≡ true → IsSettledLog old new into
   pub refused : (why : Fault) → result ≡ Err why → (WhyNotFrom old from why × SameBut old new (from ∷ [])) ⊎ WhyNotInto old from into why
   pub device : result ≡ Err Device → Rose (old.log_faults from) (new.log_faults from) ⊎ Rose (old.log_faults into) (new.log_faults into)
-  pub history : (count : ℕ) → result ≡ Ok count → old.tells ≡ true → HasFittingHistory (log_bytes old from)
+  pub history : (count : ℕ) → result ≡ Ok count → old.tells ≡ true → HasFittingHistory old (log_bytes old from)
   pub version : (count : ℕ) → result ≡ Ok count → old.tells ≡ true → version_of (log_bytes old from) ≡ 1
   pub fit : (count : ℕ) (entries : List Entry) → result ≡ Ok count → old.tells ≡ true → HasHistory entries (log_bytes old from)
-      → ∥ ((before : List Entry) × IsFit journal_limits entries before (log_bytes old into)) ∥₁
+      → ∥ ((before : List Entry) × IsFit (journal_limits old) entries before (log_bytes old into)) ∥₁
   pub all : (count : ℕ) (entries : List Entry) → result ≡ Ok count → old.tells ≡ true → HasHistory entries (log_bytes old from)
       → (count ≡ length entries) × IsBrought entries (log_bytes new into)
   pub durable : (count : ℕ) (entries : List Entry) → result ≡ Ok count → old.tells ≡ true → HasHistory entries (log_bytes old from)

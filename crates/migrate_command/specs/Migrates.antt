@@ -44,24 +44,24 @@ EndsMigrating (Told OtherHistory) = Unit {0}
 -- or of the newest version.
 pub data WhyNotFrom (room : RoomView) (name : List ℕ) (fault : Fault) : Type 0 where
   NotOpened : (reason : OpenFault) → reason ≢ opening.OldVersion → fault ≡ fault_of_opening reason
-      → (room.tells ≡ true → IsUnopened journal_limits (log_bytes room name) reason) → WhyNotFrom room name fault
-  Newest : fault ≡ OldVersion → (room.tells ≡ true → (version_of (log_bytes room name) ≡ 2) × HasFittingHistory (log_bytes room name))
+      → (room.tells ≡ true → IsUnopened (journal_limits room) (log_bytes room name) reason) → WhyNotFrom room name fault
+  Newest : fault ≡ OldVersion → (room.tells ≡ true → (version_of (log_bytes room name) ≡ 2) × HasFittingHistory room (log_bytes room name))
       → WhyNotFrom room name fault
 
--- why it is not brought into the new one's log, where the old log is of version 1 and has these entries, within the limits
+-- why it is not brought into the new one's log, where the old log is of version 1 and has these entries, within the room's limits
 pub record WhyNotInto (room : RoomView) (from into : List ℕ) (fault : Fault) : Type 0 where
   pub reason : MigrateFault
   pub is : fault ≡ fault_of_migrating reason
   pub oldest : room.tells ≡ true → version_of (log_bytes room from) ≡ 1
-  pub history : room.tells ≡ true → HasFittingHistory (log_bytes room from)
+  pub history : room.tells ≡ true → HasFittingHistory room (log_bytes room from)
   pub so : room.tells ≡ true → (entries : List Entry) × HasHistory entries (log_bytes room from)
-      × IsUnmigrated journal_limits entries (log_bytes room into) reason
+      × IsUnmigrated (journal_limits room) entries (log_bytes room into) reason
 
 -- an image has the entries that the log of that name had, or, where that is fit for the history, more of the history, in no more bytes
 -- than these take; where it is fit the image is of version 2
 abbrev pub IsAmidInto : List Entry → List Entry → RoomView → List ℕ → List ℕ → Type 0
 IsAmidInto history entries room name c =
-    ∥ IsAmid (IsFit journal_limits history entries (log_bytes room name)) history entries (log_bytes room name) c ∥₁
+    ∥ IsAmid (IsFit (journal_limits room) history entries (log_bytes room name)) history entries (log_bytes room name) c ∥₁
 
 -- A history is brought into the log of that name, as far as it came: the log was not opened, or it is a closed log again, each image
 -- since its first sync is amid, and so is the file; of a log that tells its moments and has not synced the file is as it was.
@@ -98,7 +98,7 @@ pub record Migrates (from into : List ℕ) (o : Outcome) : Type 0 where
   pub brings : (entries : List Entry) → o.old.tells ≡ true → HasHistory entries (log_bytes o.old from) → ∥ BringsInto entries o.old o.new into ∥₁
   -- a new one that is not fit for the history is left alone, whatever the end is, in its file and in what a crash may leave
   pub alone : (entries : List Entry) → o.old.tells ≡ true → HasHistory entries (log_bytes o.old from)
-      → IsUnfit journal_limits entries (log_bytes o.old into) → KeepsHistory (IsDeviceOf o into) o.old o.new into
+      → IsUnfit (journal_limits o.old) entries (log_bytes o.old into) → KeepsHistory (IsDeviceOf o into) o.old o.new into
   -- unless a device failed, a new one that doesn't get the history is as it was, byte for byte, and a crash leaves the same of it
   pub kept : (why : Fault) → o.end ≡ Told why → why ≢ Device → o.old.tells ≡ true → log_bytes o.new into ≡ log_bytes o.old into
   pub settled : (why : Fault) → o.end ≡ Told why → why ≢ Device → o.old.tells ≡ true → IsSettledLog o.old o.new into
@@ -106,11 +106,11 @@ pub record Migrates (from into : List ℕ) (o : Outcome) : Type 0 where
   pub told : (why : Fault) → o.end ≡ Told why
       → IsTold why o × ((WhyNotFrom o.old from why × SameBut o.old o.new (from ∷ [])) ⊎ WhyNotInto o.old from into why)
   pub device : o.end ≡ Told Device → Rose (o.old.log_faults from) (o.new.log_faults from) ⊎ Rose (o.old.log_faults into) (o.new.log_faults into)
-  -- without one the old journal has a history, within the limits, and is of version 1, and the new one was fit for that
-  pub history : TellsNoFault o.end → o.old.tells ≡ true → HasFittingHistory (log_bytes o.old from)
+  -- without one the old journal has a history, within the room's limits, and is of version 1, and the new one was fit for that
+  pub history : TellsNoFault o.end → o.old.tells ≡ true → HasFittingHistory o.old (log_bytes o.old from)
   pub version : TellsNoFault o.end → o.old.tells ≡ true → version_of (log_bytes o.old from) ≡ 1
   pub fit : (entries : List Entry) → TellsNoFault o.end → o.old.tells ≡ true → HasHistory entries (log_bytes o.old from)
-      → ∥ ((before : List Entry) × IsFit journal_limits entries before (log_bytes o.old into)) ∥₁
+      → ∥ ((before : List Entry) × IsFit (journal_limits o.old) entries before (log_bytes o.old into)) ∥₁
   -- the new one has it, in its file and in each image, and is of version 2
   pub all : (entries : List Entry) → TellsNoFault o.end → o.old.tells ≡ true → HasHistory entries (log_bytes o.old from)
       → IsBrought entries (log_bytes o.new into)

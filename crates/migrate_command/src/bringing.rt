@@ -12,13 +12,12 @@ use crate::migration::migrate;
 use crate::told::fault_of_migrating;
 use console_lines::Fault;
 use entry_history::EntryPayload;
-use journal_files::{
-    HistoryEntries, JOURNAL_LIMITS, close_history, fault_of_opening, open_history,
-};
+use journal_files::{HistoryEntries, close_history, fault_of_opening, limits_of, open_history};
 use outside::Room;
 use std::alloc::Global;
 
-/// Brings a history into the file of that name, in version 2, whatever version it stood in. Its entries are given up.
+/// Brings a history into the file of that name, in version 2, whatever version it stood in, within the room's limits. Its entries are
+/// given up.
 pub fn bring_history<R: Room>(
     alloc: Global,
     room: &mut R,
@@ -26,7 +25,7 @@ pub fn bring_history<R: Room>(
     into: &str,
 ) -> Result<(), Fault>
     requires free { (R.seen room.old).open_as into.now ≡ None }
-    requires within { IsWithin journal_limits history.items }
+    requires within { IsWithin (journal_limits (R.seen room.old)) history.items }
     ensures apart { SameBut (R.seen room.old) (R.seen room.new) (into.now ∷ []) }
     ensures closed { (R.seen room.new).open_as into.now ≡ None }
     ensures brings { (was : List ℕ) → (R.seen room.old).tells ≡ true → HasHistory history.items was →
@@ -40,10 +39,11 @@ pub fn bring_history<R: Room>(
     ensures settled { IfErr result (λ fault. fault ≢ Device → (R.seen room.old).tells ≡ true →
         IsSettledLog (R.seen room.old) (R.seen room.new) into.now) }
 {
+    let limits = limits_of(room);
     let Ok(log) = room.open_log(into) else {
         return Err(Fault::Device);
     };
-    match migrate(alloc, history, log, JOURNAL_LIMITS) {
+    match migrate(alloc, history, log, limits) {
         Ok(log) => {
             room.close_log(into, log);
             Ok(())
@@ -66,7 +66,7 @@ fn bring_old<R: Room>(
     into: &str,
 ) -> Result<u64, Fault>
     requires free { (R.seen room.old).open_as into.now ≡ None }
-    requires within { IsWithin journal_limits history.items }
+    requires within { IsWithin (journal_limits (R.seen room.old)) history.items }
     ensures apart { SameBut (R.seen room.old) (R.seen room.new) (into.now ∷ []) }
     ensures closed { (R.seen room.new).open_as into.now ≡ None }
     ensures brings { (was : List ℕ) → (R.seen room.old).tells ≡ true → HasHistory history.items was →

@@ -16,6 +16,7 @@ same_but_itself a names = record {
   log_counts = λ n. omega arith;
   failed_ats = λ n _. refl;
   promises = λ n. refl;
+  sizes = refl;
 }
 
 -- one call after the other
@@ -31,6 +32,7 @@ same_but_then a b c names first second = record {
   log_counts = λ n. omega (arith, first.log_counts n, second.log_counts n);
   failed_ats = λ n other. second.failed_ats n other ∙ first.failed_ats n other;
   promises = λ n. second.promises n ∙ first.promises n;
+  sizes = second.sizes ∙ first.sizes;
 }
 
 -- the same but for names that are all among these
@@ -47,6 +49,7 @@ same_but_more a b names more fewer same = record {
   log_counts = same.log_counts;
   failed_ats = λ n other. same.failed_ats n (fewer n other);
   promises = same.promises;
+  sizes = same.sizes;
 }
 
 -- where nothing changed

@@ -18,6 +18,8 @@ pub data Promise : Type 0 where
 pub record RoomView : Type 1 where
   -- whether it tells its files
   pub tells : Bool
+  -- whether commands over it take the limits of a large catalogue
+  pub is_large : Bool
   -- the bytes of the file of that name, where there is one that isn't open as a log. An output that is open leaves it as it is.
   pub file : List ℕ → Option (List ℕ)
   -- how the name is open
@@ -76,7 +78,7 @@ abbrev pub IsNoneOf : List ℕ → List (List ℕ) → Type 0
 IsNoneOf name [] = Unit {0}
 IsNoneOf name (other ∷ others) = (name ≢ other) × IsNoneOf name others
 
--- no file, closed log or open name but of these names changes, no count falls, and the promises stay
+-- no file, closed log or open name but of these names changes, no count falls, and the promises and limits stay
 pub record SameBut (old new : RoomView) (names : List (List ℕ)) : Type 0 where
   pub tells : new.tells ≡ old.tells
   pub files : (n : List ℕ) → IsNoneOf n names → new.file n ≡ old.file n
@@ -88,3 +90,4 @@ pub record SameBut (old new : RoomView) (names : List (List ℕ)) : Type 0 where
   pub log_counts : (n : List ℕ) → old.log_faults n ≤ new.log_faults n
   pub failed_ats : (n : List ℕ) → IsNoneOf n names → new.failed_at n ≡ old.failed_at n
   pub promises : (n : List ℕ) → new.promise n ≡ old.promise n
+  pub sizes : new.is_large ≡ old.is_large

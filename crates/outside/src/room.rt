@@ -16,9 +16,13 @@ pub trait Room {
     /// What a log is read and written by.
     type Log: Disk + Send;
 
-    // What a room is, for the clauses: its files, closed logs, open names, counts of faults, how far outputs came that failed, what closed
-    // inputs had left, and what it promises.
+    // What a room is, for the clauses: its limits, files, closed logs, open names, counts of faults, how far outputs came that failed, what
+    // closed inputs had left, and what it promises.
     ghost seen: { Self → RoomView };
+
+    /// Whether commands over it take the limits of a large catalogue.
+    fn is_large(&self) -> bool
+        ensures { result ≡ (seen self.now).is_large };
 
     /// Opens the file of that name to be read. It fails where there is no such file.
     fn open_in(&mut self, name: &str) -> Result<Self::In, Failed>

@@ -20,8 +20,8 @@ state_of a b same = ap (λ (f : NamedFile). f.state) same
 
 -- what stands under each name stays
 pub stays_same : (old new : MemRoom) → SameFiles old new → in_count old ≤ in_count new → out_count old ≤ out_count new → log_count old ≤ log_count new
-    → SameBut (room_view old) (room_view new) []
-stays_same old new same ins outs logs = record {
+    → new.large ≡ old.large → SameBut (room_view old) (room_view new) []
+stays_same old new same ins outs logs size = record {
   tells = refl;
   files = λ n _. ap told_file (state_of (file_under new n) (file_under old n) (same.under n));
   open_names = λ n _. ap open_sort (same.under n);
@@ -32,16 +32,18 @@ stays_same old new same ins outs logs = record {
   log_counts = λ n. logs;
   failed_ats = λ n _. refl;
   promises = λ n. refl;
+  sizes = size;
 }
 
 pub apart_same : (old new : MemRoom) (name : List ℕ) → SameFiles old new → in_count old ≤ in_count new → out_count old ≤ out_count new → log_count old ≤ log_count new
-    → SameBut (room_view old) (room_view new) (name ∷ [])
-apart_same old new name same ins outs logs = same_but_none (room_view old) (room_view new) (name ∷ []) (stays_same old new same ins outs logs)
+    → new.large ≡ old.large → SameBut (room_view old) (room_view new) (name ∷ [])
+apart_same old new name same ins outs logs size = same_but_none (room_view old) (room_view new) (name ∷ []) (stays_same old new same ins outs logs size)
 
 -- something else stands under one name
 pub apart_changed : (old new : MemRoom) (name : List ℕ) (file : NamedFile) → ChangesUnder old new name file
-    → in_count old ≤ in_count new → out_count old ≤ out_count new → log_count old ≤ log_count new → SameBut (room_view old) (room_view new) (name ∷ [])
-apart_changed old new name file changed ins outs logs = record {
+    → in_count old ≤ in_count new → out_count old ≤ out_count new → log_count old ≤ log_count new → new.large ≡ old.large
+    → SameBut (room_view old) (room_view new) (name ∷ [])
+apart_changed old new name file changed ins outs logs size = record {
   tells = refl;
   files = λ n other. ap told_file (state_of (file_under new n) (file_under old n) (changed.others n other.0));
   open_names = λ n other. ap open_sort (changed.others n other.0);
@@ -52,6 +54,7 @@ apart_changed old new name file changed ins outs logs = record {
   log_counts = λ n. logs;
   failed_ats = λ n _. refl;
   promises = λ n. refl;
+  sizes = size;
 }
 
 -- the disk that was closed is the closed log

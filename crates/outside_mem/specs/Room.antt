@@ -45,6 +45,7 @@ log_view OpenLog = view_of [] [] [] 0
 abbrev pub room_view : MemRoom → RoomView
 room_view room = record {
   tells = true;
+  is_large = room.large;
   file = λ name. told_file (file_under room name).state;
   open_as = λ name. open_sort (file_under room name);
   has_log = λ name. is_closed_log (file_under room name).state;

@@ -14,10 +14,12 @@ use crate::{MemDisk, MemSink, MemSource};
 use outside::{Bytes, Failed, GivenUp, LONGEST_DISK, NoMemory, Room, Source};
 use std::alloc::Global;
 
-/// A room in memory, which tells its files and closed logs. It keeps one count of faults per sort, which stands for every name.
+/// A room in memory, which tells its files and closed logs. It keeps one count of faults per sort, which stands for every name. It takes the
+/// limits of a large catalogue only where it is made to.
 #[derive(Debug, Drop)]
 pub struct MemRoom {
     alloc: Global,
+    large: bool,
     files: Vec<MemFile>,
     in_faults: u64,
     out_faults: u64,
@@ -26,21 +28,33 @@ pub struct MemRoom {
 }
 
 impl MemRoom {
-    /// An empty room.
+    /// An empty room, which isn't large.
     #[tactic(auto, using(crate::proofs::Places::file_in_none))]
     pub fn new(alloc: Global) -> Self
         ensures files { (n : List ℕ) → file_under result n ≡ record { state = Absent; fails = []; opening_fails = false; is_output = false } }
         ensures closed { (n : List ℕ) → (room_view result).open_as n ≡ None }
         ensures counts { HasCounts result 0 0 0 }
+        ensures plain { (room_view result).is_large ≡ false }
     {
         MemRoom {
             alloc,
+            large: false,
             files: Vec::new(alloc),
             in_faults: 0,
             out_faults: 0,
             log_faults: 0,
             closed: GivenUp::none(),
         }
+    }
+
+    /// Commands over it take the limits of a large catalogue from now on, or no more.
+    pub fn set_large(&mut self, large: bool)
+        ensures large { (room_view self.new).is_large ≡ large }
+        ensures files { SameFiles self.old self.new }
+        ensures open { (n : List ℕ) → (room_view self.new).open_as n ≡ (room_view self.old).open_as n }
+        ensures counts { SameCounts self.old self.new }
+    {
+        self.large = large;
     }
 
     /// Makes a file of these bytes.
@@ -50,6 +64,7 @@ impl MemRoom {
             (record (file_under self.old name.now) { state = Closed bytes.items; is_output = false })) }
         ensures err { OnErr result (SameFiles self.old self.new) }
         ensures counts { SameCounts self.old self.new }
+        ensures size { self.new.large ≡ self.old.large }
     {
         let place = files::enter(self.alloc, &mut self.files, name)?;
         files::close(
@@ -66,6 +81,7 @@ impl MemRoom {
             (record (file_under self.old name.now) { fails = (file_under self.old name.now).fails ++ call ∷ [] })) }
         ensures err { OnErr result (SameFiles self.old self.new) }
         ensures counts { SameCounts self.old self.new }
+        ensures size { self.new.large ≡ self.old.large }
     {
         let place = files::enter(self.alloc, &mut self.files, name)?;
         files::let_call_fail(&mut self.files, place, call)?;
@@ -78,6 +94,7 @@ impl MemRoom {
             (record (file_under self.old name.now) { opening_fails = true })) }
         ensures err { OnErr result (SameFiles self.old self.new) }
         ensures counts { SameCounts self.old self.new }
+        ensures size { self.new.large ≡ self.old.large }
     {
         let place = files::enter(self.alloc, &mut self.files, name)?;
         files::let_opening_fail(&mut self.files, place);
@@ -160,6 +177,7 @@ impl MemRoom {
             (record (file_under self.old name.now) { is_output = true })) }
         ensures none { IfNone result (SameFiles self.old self.new) }
         ensures counts { SameCounts self.old self.new }
+        ensures size { self.new.large ≡ self.old.large }
     {
         let place = files::enter(self.alloc, &mut self.files, name).ok()?;
         let fails = files::fails_of_opening(self.alloc, &self.files, place)?;
@@ -174,6 +192,7 @@ impl MemRoom {
         ensures lefts { self.new.closed ≡ self.old.closed }
         ensures closed { ChangesUnder self.old self.new name.now (record (file_under self.old name.now) { is_output = false }) }
         ensures counts { SameCounts self.old self.new }
+        ensures size { self.new.large ≡ self.old.large }
     {
         if let Some(place) = files::place_of(&self.files, name) {
             files::set_output(&mut self.files, place, false);
@@ -188,6 +207,7 @@ impl MemRoom {
         ensures closed { ChangesUnder self.old self.new name.now
             (record (file_under self.old name.now) { state = Closed object.bytes; is_output = false }) }
         ensures counts { SameCounts self.old self.new }
+        ensures size { self.new.large ≡ self.old.large }
     {
         if let Some(place) = files::place_of(&self.files, name) {
             let bytes = Bytes::from_vec(object.into_bytes());
@@ -203,6 +223,7 @@ impl MemRoom {
             (record (file_under self.old name.now) { state = OpenLog })) }
         ensures none { IfNone result (SameFiles self.old self.new) }
         ensures counts { SameCounts self.old self.new }
+        ensures size { self.new.large ≡ self.old.large }
     {
         let disk = disk_copy(self.alloc, &self.files, name)?;
         let place = files::enter(self.alloc, &mut self.files, name).ok()?;
@@ -219,6 +240,12 @@ impl Room for MemRoom {
     type Log = MemDisk;
 
     ghost seen = { room_view };
+
+    fn is_large(&self) -> bool
+        ensures { result ≡ self.now.large }
+    {
+        self.large
+    }
 
     #[tactic(auto, using(crate::proofs::Rooms::stays_same))]
     fn open_in(&mut self, name: &str) -> Result<MemSource, Failed>

@@ -27,10 +27,11 @@ file_disk_view disk = untold_disk disk.len disk.faults
 abbrev pub opened : Bool → Bool → Option OpenSort
 opened as_output as_log = if as_output then Some AsOutput else if as_log then Some AsLog else None
 
--- a room that tells no file, with the names that are open and its counts
-abbrev pub untold_room : (List ℕ → Bool) → (List ℕ → Bool) → ℕ → ℕ → ℕ → List (Option (List ℕ)) → RoomView
-untold_room is_output is_log ins outs logs lefts = record {
+-- a room that tells no file, with its limits, the names that are open and its counts
+abbrev pub untold_room : Bool → (List ℕ → Bool) → (List ℕ → Bool) → ℕ → ℕ → ℕ → List (Option (List ℕ)) → RoomView
+untold_room is_large is_output is_log ins outs logs lefts = record {
   tells = false;
+  is_large = is_large;
   file = λ _. None;
   open_as = λ name. opened (is_output name) (is_log name);
   has_log = λ _. false;
@@ -45,7 +46,7 @@ untold_room is_output is_log ins outs logs lefts = record {
 
 -- a room over real files as any room is seen
 abbrev pub file_room_view : {R File Dir : Type 0} → FileRoom R File Dir → RoomView
-file_room_view room = untold_room (contains_text room.outputs.set) (contains_text room.open_logs.set) room.ins room.outs room.logs room.closed
+file_room_view room = untold_room room.large (contains_text room.outputs.set) (contains_text room.open_logs.set) room.ins room.outs room.logs room.closed
 
 -- the faults of all inputs, of all outputs, and of all logs
 pub record HasCounts {R File Dir : Type 0} (room : FileRoom R File Dir) (inputs outputs of_logs : ℕ) : Type 0 where

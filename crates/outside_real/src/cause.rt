@@ -15,7 +15,9 @@ pub enum Cause {
     ReadOnly,
     NoSpace,
     /// An input has more bytes than [`crate::LONGEST_INPUT`].
-    TooLong,
+    LongerThanGibibyte,
+    /// A large command's input has more bytes than [`crate::LONGEST_LARGE_INPUT`], or a log more than a disk.
+    LongerThanTebibyte,
     /// The file is a journal, and an output would take its place.
     IsJournal,
     /// There is no such file, and its name has the form of a library's word.
@@ -50,7 +52,8 @@ impl Cause {
             Cause::IsFolder => ": is a folder",
             Cause::ReadOnly => ": on a read-only file system",
             Cause::NoSpace => ": no space left",
-            Cause::TooLong => ": longer than 1 GiB",
+            Cause::LongerThanGibibyte => ": longer than 1 GiB",
+            Cause::LongerThanTebibyte => ": longer than 1 TiB",
             Cause::IsJournal => " is a journal; no output is written over it",
             Cause::LibraryWord => {
                 " looks like CODE=FILE, and there is no such file: is a word missing? ./NAME makes it"

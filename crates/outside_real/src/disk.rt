@@ -42,7 +42,7 @@ impl<R: Eprint + Clock> FileDisk<R> {
                 watch: None,
                 most_cut: u64::MAX,
             }),
-            Ok(_) => Err(Cause::TooLong),
+            Ok(_) => Err(Cause::LongerThanTebibyte),
             Err(error) => Err(Cause::of(&error)),
         }
     }

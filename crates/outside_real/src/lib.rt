@@ -37,7 +37,7 @@ pub use heard::{Heard, MOST_LINES};
 pub use line_notes::LineNotes;
 pub use room::{Counts, FileRoom, Intent};
 pub use sink::FileSink;
-pub use source::{FileSource, LONGEST_INPUT};
+pub use source::{FileSource, LONGEST_INPUT, LONGEST_LARGE_INPUT};
 pub use tally::Tally;
 pub use target::{Keep, Target};
 pub use watched::WatchedFile;

@@ -14,7 +14,7 @@ use crate::names::Names;
 use crate::opening::{OpenedAs, bytes_at, emptied, foreign_sort, is_journal, is_missing};
 use crate::sink::FileSink;
 use crate::slips::is_library_word;
-use crate::source::FileSource;
+use crate::source::{FileSource, LONGEST_INPUT, LONGEST_LARGE_INPUT};
 use crate::straight::Straight;
 use crate::tally::Tally;
 use crate::target::Target;
@@ -39,6 +39,7 @@ pub struct FileRoom<R: Files + Eprint + Clock> {
     rt: R,
     alloc: Global,
     process: u32,
+    large: bool,
     outputs: Names,
     open_logs: Names,
     held: HeldFiles,
@@ -114,8 +115,9 @@ fn is_named(wanted: &Option<String>, name: &str) -> bool {
 }
 
 impl<R: Files<File = File> + Print + Eprint + Clock + Alloc + Clone + Drop> FileRoom<R> {
-    /// A room of the process with that number.
-    pub fn new(rt: R, alloc: Global, process: u32) -> Self
+    /// A room of the process with that number, for commands that take the limits of a large catalogue or not.
+    pub fn new(rt: R, alloc: Global, process: u32, large: bool) -> Self
+        ensures size { (file_room_view result).is_large ≡ large }
         ensures closed { (n : List ℕ) → (file_room_view result).open_as n ≡ None }
         ensures counts { HasCounts result 0 0 0 }
         ensures unheld { (n : List ℕ) → has_file result.held n ≡ false }
@@ -125,6 +127,7 @@ impl<R: Files<File = File> + Print + Eprint + Clock + Alloc + Clone + Drop> File
             rt,
             alloc,
             process,
+            large,
             outputs: Names::new(alloc),
             open_logs: Names::new(alloc),
             held: HeldFiles::new(alloc),
@@ -143,6 +146,7 @@ impl<R: Files<File = File> + Print + Eprint + Clock + Alloc + Clone + Drop> File
         ensures counts { HasCounts self.new self.old.ins self.old.outs self.old.logs }
         ensures held { self.new.held ≡ self.old.held }
         ensures lefts { self.new.closed ≡ self.old.closed }
+        ensures size { self.new.large ≡ self.old.large }
     {
         self.intent = intent;
     }
@@ -187,6 +191,15 @@ impl<R: Files<File = File> + Print + Eprint + Clock + Alloc + Clone + Drop> File
     pub fn end_progress(&self) {
         if let Some(line) = &self.line {
             line.clear(&self.rt);
+        }
+    }
+
+    // The most bytes of an input.
+    fn longest_input(&self) -> u64 {
+        if self.large {
+            LONGEST_LARGE_INPUT
+        } else {
+            LONGEST_INPUT
         }
     }
 
@@ -377,6 +390,7 @@ impl<R: Files<File = File> + Print + Eprint + Clock + Alloc + Clone + Drop> File
         ensures counts { HasCounts self.new self.old.ins self.old.outs self.old.logs }
         ensures holds { Holds self.old.held self.new.held name.now result }
         ensures lefts { self.new.closed ≡ self.old.closed }
+        ensures size { self.new.large ≡ self.old.large }
     {
         let is_new = is_missing(&self.rt, name);
         let file = self
@@ -402,6 +416,7 @@ impl<R: Files<File = File> + Print + Eprint + Clock + Alloc + Clone + Drop> File
         ensures counts { HasCounts self.new self.old.ins self.old.outs self.old.logs }
         ensures holds { Holds self.old.held self.new.held name.now result }
         ensures lefts { self.new.closed ≡ self.old.closed }
+        ensures size { self.new.large ≡ self.old.large }
     {
         // The name first, so that want of memory leaves the file as it was.
         if self.outputs.add(self.alloc, name).is_err() {
@@ -424,6 +439,7 @@ impl<R: Files<File = File> + Print + Eprint + Clock + Alloc + Clone + Drop> File
         ensures counts { HasCounts self.new self.old.ins self.old.outs self.old.logs }
         ensures held { self.new.held ≡ self.old.held }
         ensures lefts { self.new.closed ≡ self.old.closed }
+        ensures size { self.new.large ≡ self.old.large }
     {
         self.outputs.remove(name);
         self.open_logs.remove(name);
@@ -448,6 +464,12 @@ impl<R: Files<File = File> + Print + Eprint + Clock + Alloc + Clone + Send + Dro
 
     ghost promised = { λ room name. tt };
 
+    fn is_large(&self) -> bool
+        ensures { result ≡ self.now.large }
+    {
+        self.large
+    }
+
     fn open_in(&mut self, name: &str) -> Result<FileSource<WatchedFile<R>>, Failed>
         requires { (file_room_view self.old).open_as name.now ≡ None }
         ensures stays { SameBut (file_room_view self.old) (file_room_view self.new) [] }
@@ -467,7 +489,7 @@ impl<R: Files<File = File> + Print + Eprint + Clock + Alloc + Clone + Send + Dro
         match self.held.open(self.alloc, &self.rt, name, sort) {
             Ok(file) => {
                 self.tell_foreign(name);
-                Ok(FileSource::new(self.watched(name, file)))
+                Ok(FileSource::new(self.watched(name, file), self.longest_input()))
             }
             Err(cause) => {
                 self.tell(name, cause);

@@ -12,25 +12,30 @@ use std::io::Read;
 /// The longest input: one gibibyte.
 pub const LONGEST_INPUT: u64 = 1_073_741_824;
 
-/// A file that is read, or any other reader. A further byte behind the longest input is a fault.
+/// The longest input of a command that takes the limits of a large catalogue: one tebibyte.
+pub const LONGEST_LARGE_INPUT: u64 = 1_099_511_627_776;
+
+/// A file that is read, or any other reader, up to a most of bytes. A further byte is a fault.
 #[derive(Drop)]
 pub struct FileSource<F: Read> {
     file: F,
+    longest: u64,
     remaining: u64,
     faults: u64,
     cause: Option<Cause>,
 }
 
 impl<F: Read> FileSource<F> {
-    /// A source of at most [`LONGEST_INPUT`] bytes.
-    pub fn new(file: F) -> Self
+    /// A source of at most so many bytes, [`LONGEST_INPUT`] or [`LONGEST_LARGE_INPUT`].
+    pub fn new(file: F, longest: u64) -> Self
         ensures fresh { ⟦<FileSource<F> as Source>⟧.faults result ≡ 0 }
-        ensures bound { ⟦<FileSource<F> as Source>⟧.bound result ≡ LONGEST_INPUT }
+        ensures bound { ⟦<FileSource<F> as Source>⟧.bound result ≡ longest }
         ensures file { result.file ≡ file }
     {
         FileSource {
             file,
-            remaining: LONGEST_INPUT,
+            longest,
+            remaining: longest,
             faults: 0,
             cause: None,
         }
@@ -82,7 +87,7 @@ impl<F: Read> Source for FileSource<F> {
                 Ok(count)
             }
             answer => {
-                self.cause = Some(cause_of(&answer));
+                self.cause = Some(cause_of(&answer, self.longest));
                 self.faults = raised(self.faults);
                 Err(Failed)
             }
@@ -91,9 +96,10 @@ impl<F: Read> Source for FileSource<F> {
 }
 
 // A read that gives bytes is a fault only behind the longest input.
-fn cause_of(answer: &io::Result<usize>) -> Cause {
+fn cause_of(answer: &io::Result<usize>, longest: u64) -> Cause {
     match answer {
-        Ok(_) => Cause::TooLong,
+        Ok(_) if longest > LONGEST_INPUT => Cause::LongerThanTebibyte,
+        Ok(_) => Cause::LongerThanGibibyte,
         Err(error) => Cause::of(error),
     }
 }

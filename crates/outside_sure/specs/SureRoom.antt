@@ -28,6 +28,7 @@ module _ {room : ℕ} where
   abbrev pub sure_room_view : SureRoom room → RoomView
   sure_room_view sure = record {
     tells = true;
+    is_large = false;
     file = λ name. told_kept (kept_under sure name);
     open_as = λ name. kept_sort (kept_under sure name);
     has_log = λ name. is_kept_log (kept_under sure name);

@@ -18,8 +18,8 @@ use crate::{SureDisk, SureSink, SureSource};
 use outside::{Failed, GivenUp, NoMemory, Room};
 use std::alloc::Global;
 
-/// A room in memory whose outputs and logs fail for want of room alone, and which takes memory at no call of the trait. It tells its files
-/// and closed logs. Its three counts are of the openings that failed, as input, as output and as log; each drawer has a count of its own.
+/// A room in memory whose outputs and logs fail for want of room alone, and which takes memory at no call of the trait. It isn't large. It
+/// tells its files and closed logs. Its three counts are of the openings that failed, as input, as output and as log; each drawer has a count of its own.
 #[derive(Debug, Drop)]
 pub struct SureRoom<'a, const ROOM: usize> {
     alloc: Global,
@@ -108,6 +108,12 @@ impl<'a, const ROOM: usize> Room for SureRoom<'a, ROOM> {
     type Log = SureDisk<ROOM>;
 
     ghost seen = { sure_room_view };
+
+    fn is_large(&self) -> bool
+        ensures { result ≡ false }
+    {
+        false
+    }
 
     #[tactic(auto, using(crate::proofs::SureRooms::stays_kept))]
     fn open_in(&mut self, name: &str) -> Result<SureSource<'a>, Failed>

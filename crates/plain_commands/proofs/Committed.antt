@@ -4,18 +4,18 @@ use Rattle.std.specs.Prelude.{◌||◌}
 use Rattle.std.proofs.lemmas.Bool.{le-ltb}
 use Rattle.std.proofs.lemmas.List.Sums.{sum_by-append, sum_by-cons}
 use Rattle.marc_types.specs.declared.entry.Entry.{Entry}
+use Rattle.marc_types.specs.declared.entry.Limits.{Limits}
 use Rattle.entry_record.specs.History.{entry_size, entries_size}
-use Rattle.marc_types.specs.Limits.{most_entries, most_bytes}
 use Rattle.plain_commands.specs.Loading.{lacks_room}
 
 neither : (a b : Bool) → a ≡ false → b ≡ false → (a || b) ≡ false
 neither a b first second = ap (λ x. x || b) first ∙ second
 
 -- there is room for the next of entries that are all within the limits
-pub room_for_next : (accepted before after all : List Entry) (e : Entry) → accepted ++ before ≡ all → before ≡ e ∷ after
-    → length all ≤ most_entries → entries_size all ≤ most_bytes → lacks_room accepted e ≡ false
+pub room_for_next : (limits : Limits) (accepted before after all : List Entry) (e : Entry) → accepted ++ before ≡ all → before ≡ e ∷ after
+    → length all ≤ limits.entries → entries_size all ≤ limits.bytes → lacks_room limits accepted e ≡ false
 unfolding lacks_room
-room_for_next accepted before after all e split next few small =
+room_for_next limits accepted before after all e split next few small =
     let none = append-nil accepted in
     let number = ap (length {A = Entry}) split in
     let parts = length-append accepted before in
@@ -26,8 +26,8 @@ room_for_next accepted before after all e split next few small =
     let size_left = ap entries_size next in
     let first = sum_by-cons entry_size e after in
     let size_before = ap entries_size none in
-    neither _ _ (le-ltb most_entries (length (accepted ++ []) + 1) (omega arith))
-    (le-ltb most_bytes (entries_size (accepted ++ []) + entry_size e) (omega arith))
+    neither _ _ (le-ltb limits.entries (length (accepted ++ []) + 1) (omega arith))
+    (le-ltb limits.bytes (entries_size (accepted ++ []) + entry_size e) (omega arith))
 
 -- it was committed
 pub committed_next : (accepted now before after all : List Entry) (e : Entry) → accepted ++ before ≡ all → before ≡ e ∷ after

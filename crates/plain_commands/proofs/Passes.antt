@@ -2,6 +2,8 @@
 use Rattle.std.proofs.Common.{◌≡◌, ℕ, Bool, true, List, length, sym, subst, arith, Option, Some, []}
 use Rattle.std.specs.Prelude.{string_bytes, nat_lt, IsSomeAnd}
 use Rattle.std.specs.Io.KnownBytes.{Appends}
+use Rattle.marc_types.specs.declared.entry.Limits.{Limits}
+use Rattle.marc_types.specs.Limits.{limits_of}
 use Rattle.outside.specs.Fault.{Rose}
 use Rattle.outside.specs.Room.{RoomView, SameBut}
 use Rattle.outside.specs.Sink.{WritesFront}
@@ -22,13 +24,13 @@ use Rattle.plain_commands.specs.Passing.{FileDue, IsReady, IsPassed, IsPassedInP
 use Rattle.plain_commands.proofs.There.{there_more}
 use Rattle.plain_commands.specs.declared.ready.Ready.{Ready}
 
-module _ (due : FileDue) (library : Library) (bytes : List ℕ) (ready : Ready) (is : IsReady library bytes ready) where
+module _ (limits : Limits) (due : FileDue) (library : Library) (bytes : List ℕ) (ready : Ready) (is : IsReady limits library bytes ready) where
   -- what is due of what was made ready
   abbrev due_of_ready : List ℕ
   due_of_ready = due bytes ready.loaded.accepted ready.loaded.refused
 
   pub ended_whole : (new told now : Option (List ℕ)) (end : End) → new ≡ Some due_of_ready → Appends told now (string_bytes ready.text)
-      → end ≡ end_of (nat_lt 0 (length ready.loaded.refused)) → IsPassed due library bytes new told now end
+      → end ≡ end_of (nat_lt 0 (length ready.loaded.refused)) → IsPassed limits due library bytes new told now end
   ended_whole new told now end written wrote ended = record {
     accepted = ready.loaded.accepted;
     refused = ready.loaded.refused;
@@ -40,7 +42,7 @@ module _ (due : FileDue) (library : Library) (bytes : List ℕ) (ready : Ready) 
   }
 
   pub ended_in_part : (before after : RoomView) (out : List ℕ) → IsOutputLeft before after out due_of_ready
-      → IsPassedInPart due library bytes before after out
+      → IsPassedInPart limits due library bytes before after out
   ended_in_part before after out left = record {
     accepted = ready.loaded.accepted;
     refused = ready.loaded.refused;
@@ -50,7 +52,7 @@ module _ (due : FileDue) (library : Library) (bytes : List ℕ) (ready : Ready) 
   }
 
   pub ended_untold : (new told now : Option (List ℕ)) → new ≡ Some due_of_ready → WritesFront told now (string_bytes ready.text)
-      → IsPassedUntold due library bytes new told now
+      → IsPassedUntold limits due library bytes new told now
   ended_untold new told now written wrote = record {
     accepted = ready.loaded.accepted;
     refused = ready.loaded.refused;
@@ -72,16 +74,16 @@ since mid o = record {
   end = o.end;
 }
 
-module _ (due : FileDue) (library : Library) (bytes out : List ℕ) (o : Outcome) where
+module _ (limits : Limits) (due : FileDue) (library : Library) (bytes out : List ℕ) (o : Outcome) where
   -- a fault was told, and nothing is said of what was delivered
-  pub delivered_nothing : (why : Fault) → o.end ≡ Told why → IsPassDelivered due library bytes out o
+  pub delivered_nothing : (why : Fault) → o.end ≡ Told why → IsPassDelivered limits due library bytes out o
   delivered_nothing why is = record {
     whole = λ all. absurd (told_not_all o.end why is all);
     part = λ also. absurd (told_not_unwritten o.end why Out is also);
     untold = λ also. absurd (told_not_unwritten o.end why Console is also);
   }
 
-  pub delivered_in_part : o.end ≡ out_unwritten → IsPassedInPart due library bytes o.old o.new out → IsPassDelivered due library bytes out o
+  pub delivered_in_part : o.end ≡ out_unwritten → IsPassedInPart limits due library bytes o.old o.new out → IsPassDelivered limits due library bytes out o
   delivered_in_part ends is = record {
     whole = λ all. absurd (all_not_unwritten o.end Out all ends);
     part = λ also. is;
@@ -90,8 +92,8 @@ module _ (due : FileDue) (library : Library) (bytes out : List ℕ) (o : Outcome
 
   -- OUT was written, and the result was told as far as the console could be written
   pub delivered_told : {text : List ℕ} {refused : Bool} → IsResultTold o.told o.now o.faults o.faults_now text refused o.end
-      → (o.end ≡ end_of refused → Appends o.told o.now text → IsPassed due library bytes (o.new.file out) o.told o.now o.end)
-      → (WritesFront o.told o.now text → IsPassedUntold due library bytes (o.new.file out) o.told o.now) → IsPassDelivered due library bytes out o
+      → (o.end ≡ end_of refused → Appends o.told o.now text → IsPassed limits due library bytes (o.new.file out) o.told o.now o.end)
+      → (WritesFront o.told o.now text → IsPassedUntold limits due library bytes (o.new.file out) o.told o.now) → IsPassDelivered limits due library bytes out o
   delivered_told told whole untold = record {
     whole = λ all. whole (result_done told all) (result_line told all);
     part = λ also. absurd ((result_no_output told).0 also);
@@ -108,9 +110,9 @@ ends_told out o told = record {
   silent = λ also. absurd ((result_no_output told).0 also);
 }
 
-part_since : (due : FileDue) (library : Library) (bytes : List ℕ) (old mid new : RoomView) (out : List ℕ) → SameBut old mid [] → IsPassedInPart due library bytes mid new out
-    → IsPassedInPart due library bytes old new out
-part_since due library bytes old mid new out stays part = record {
+part_since : (limits : Limits) (due : FileDue) (library : Library) (bytes : List ℕ) (old mid new : RoomView) (out : List ℕ) → SameBut old mid []
+    → IsPassedInPart limits due library bytes mid new out → IsPassedInPart limits due library bytes old new out
+part_since limits due library bytes old mid new out stays part = record {
   accepted = part.accepted;
   refused = part.refused;
   judged = part.judged;
@@ -125,7 +127,7 @@ module _ (due : FileDue) (library : Library) (out : List ℕ) (o : Outcome) wher
   -- a fault was told before anything was written
   pub passes_told : (why : Fault) → o.end ≡ Told why → IsTold why o → IsFaultOfLoading why → SameBut o.old o.new []
       → (why ≡ Input → Rose (o.old.in_faults library.file) (o.new.in_faults library.file))
-      → (why ≡ Full → o.old.tells ≡ true → IsSomeAnd (o.old.file library.file) (λ bytes. IsFullAt library.code (items bytes)))
+      → (why ≡ Full → o.old.tells ≡ true → IsSomeAnd (o.old.file library.file) (λ bytes. IsFullAt (limits_of o.old.is_large) library.code (items bytes)))
       → PassesFile due library out o
   passes_told why is told kind stays input full = record {
     told = λ other also. subst (λ w. IsTold w o × IsFaultOfLoading w × SameBut o.old o.new []) (told_once o.end why other is also) (told, kind, stays);
@@ -143,7 +145,7 @@ module _ (due : FileDue) (library : Library) (out : List ℕ) (o : Outcome) wher
   -- what was made ready was delivered, into a room where the file had been read
   pub passes_delivered : (mid : RoomView) → SameBut o.old mid []
       → ((why : Fault) → o.end ≡ Told why → (why ≡ Memory) × SameBut mid o.new [] × IsTold why o) → EndsDelivering out (since mid o)
-      → (o.old.tells ≡ true → IsSomeAnd (o.old.file library.file) (λ bytes. IsPassDelivered due library bytes out (since mid o)))
+      → (o.old.tells ≡ true → IsSomeAnd (o.old.file library.file) (λ bytes. IsPassDelivered (limits_of o.old.is_large) due library bytes out (since mid o)))
       → PassesFile due library out o
   passes_delivered mid stays fault ends delivered = record {
     told = λ why also.
@@ -157,6 +159,6 @@ module _ (due : FileDue) (library : Library) (out : List ℕ) (o : Outcome) wher
     whole = λ all tells. there_more (o.old.file library.file) (λ bytes d. d.whole all) (delivered tells);
     silent = ends.silent;
     part = λ also tells.
-        there_more (o.old.file library.file) (λ bytes d. part_since due library bytes o.old mid o.new out stays (d.part also)) (delivered tells);
+        there_more (o.old.file library.file) (λ bytes d. part_since (limits_of o.old.is_large) due library bytes o.old mid o.new out stays (d.part also)) (delivered tells);
     untold = λ also tells. there_more (o.old.file library.file) (λ bytes d. d.untold also) (delivered tells);
   }

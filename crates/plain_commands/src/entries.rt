@@ -1,6 +1,6 @@
 //! The records of a workload as entries that a catalogue takes.
 ghost use Rattle.std.specs.Prelude.{◌≡◌, ◌≤◌, IfOk, OnErr, length};
-ghost use Rattle.marc_types.specs.Limits.{most_entries};
+ghost use Rattle.marc_types.specs.Limits.{most_made};
 ghost use Rattle.plain_commands.specs.Entries.{workload_entries, GivesNextEntry};
 
 use entry_record::{Prepared, admit};
@@ -23,7 +23,7 @@ pub struct Entries {
 impl Model for Entries {
     ghost use Rattle.std.specs.Prelude.{◌≡◌, ◌≤◌, ◌+◌, List, length};
     ghost use Rattle.marc_types.specs.declared.entry.Entry.{Entry};
-    ghost use Rattle.marc_types.specs.Limits.{most_entries};
+    ghost use Rattle.marc_types.specs.Limits.{most_made};
     ghost use Rattle.plain_commands.specs.Entries.{workload_library, entries_from, AreTaken};
 
     ghost Value = { List Entry };
@@ -37,7 +37,7 @@ impl Entries {
     /// The entries of all records of a workload of at most 1,048,576, the first as piece 1.
     #[tactic(auto, using(crate::proofs::Given::all_taken, crate::proofs::Given::all_entries, crate::proofs::Given::all_counted))]
     pub fn new(alloc: Global, seed: u64, count: u64) -> Result<Entries, NoMemory>
-        requires { count ≤ most_entries }
+        requires { count ≤ most_made }
         ensures all { IfOk result (λ entries. entries ≡ workload_entries seed count) }
         ensures many { IfOk result (λ entries. length entries ≡ count) }
     {

@@ -1,16 +1,15 @@
 //! The pieces of a file that are refused, as they stand in it.
-ghost use Rattle.std.specs.Prelude.{◌≡◌, ℕ, List, true, None, IsTrue, IfOk, ◌∷◌, []};
+ghost use Rattle.std.specs.Prelude.{◌≡◌, ℕ, List, None, IsTrue, IfOk, ◌∷◌, []};
 ghost use Rattle.std.specs.Io.BufRead.{take_through};
 ghost use Rattle.marc_types.specs.Valid.{is_code};
 ghost use Rattle.marc_stream.specs.Pieces.{record_terminator};
 ghost use Rattle.outside.specs.Room.{SameBut};
-ghost use Rattle.command_words.specs.declared.library.Library.{Library};
-ghost use Rattle.console_lines.specs.Ends.{outcome, IsTold};
-ghost use Rattle.plain_commands.specs.GivingBack.{piece_at, refused_pieces, refused_due, GivesBack};
-ghost use Rattle.plain_commands.specs.Passing.{IsReady, IsPassDelivered, EndsDelivering};
+ghost use Rattle.console_lines.specs.Ends.{outcome};
+ghost use Rattle.plain_commands.specs.GivingBack.{piece_at, refused_pieces, DeliversPieces, GivesBack};
+ghost use Rattle.plain_commands.specs.Passing.{TellsMemoryAlone, EndsDelivering};
 
 use crate::passing::deliver;
-use crate::ready::{Ready, prepare_bytes};
+use crate::ready::{Ready, limits_of, prepare_bytes};
 use command_words::Library;
 use console_lines::{End, Fault, tell};
 use file_entries::RefusedItem;
@@ -67,16 +66,13 @@ fn deliver_pieces<R: Room>(
     ensures closed { (R.seen room.new).open_as out.now ≡ None }
 
     // Want of memory alone is told, and then OUT isn't begun.
-    ensures fault { (why : Fault) → result ≡ End.Told why → (why ≡ Fault.Memory) × SameBut (R.seen room.old) (R.seen room.new) [] ×
-        IsTold why (outcome R.seen R.Out.written R.Out.faults room.old room.new console.old console.new result) }
+    ensures fault { TellsMemoryAlone (outcome R.seen R.Out.written R.Out.faults room.old room.new console.old console.new result) }
 
     // Which of the two could not be written.
-    ensures unwritten { EndsDelivering out.now
-        (outcome R.seen R.Out.written R.Out.faults room.old room.new console.old console.new result) }
+    ensures unwritten { EndsDelivering out.now (outcome R.seen R.Out.written R.Out.faults room.old room.new console.old console.new result) }
 
     // What is there then.
-    ensures delivered { (library : Library) → (R.seen room.old).tells ≡ true → IsReady library bytes.now ready.now →
-        IsPassDelivered refused_due library bytes.now out.now
+    ensures delivered { DeliversPieces bytes.now ready.now out.now
         (outcome R.seen R.Out.written R.Out.faults room.old room.new console.old console.new result) }
 {
     match pieces_of(alloc, bytes, ready.loaded.refused()) {
@@ -86,7 +82,7 @@ fn deliver_pieces<R: Room>(
 }
 
 /// The command `refused`: takes one file as `pass` does, and writes its refused pieces, as they stand in it, into the file `out`. It tells
-/// an input's fault, a file that has more than a catalogue takes, and want of memory.
+/// an input's fault, a file that has more than the room's limits allow, and want of memory.
 #[tactic(auto, using(outside::proofs::Closings::closed_one))]
 pub fn give_back<R: Room>(
     alloc: Global,
@@ -102,12 +98,13 @@ pub fn give_back<R: Room>(
     ensures ends { GivesBack library.now out.now
         (outcome R.seen R.Out.written R.Out.faults room.old room.new console.old console.new result) }
 {
+    let limits = limits_of(room);
     let bytes = match read_file(alloc, room, library.file.as_str()) {
         Ok(bytes) => bytes,
         Err(ReadFault::InputFault) => return tell(console, Fault::Input),
         Err(ReadFault::NoMemory) => return tell(console, Fault::Memory),
     };
-    match prepare_bytes(alloc, library, bytes.as_slice()) {
+    match prepare_bytes(alloc, limits, library, bytes.as_slice()) {
         Ok(ready) => {
             let end = deliver_pieces(alloc, room, console, out, bytes.as_slice(), &ready);
             // its memory is given back by the end of the process, which comes now

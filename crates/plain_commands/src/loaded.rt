@@ -1,4 +1,5 @@
-ghost use Rattle.std.specs.Prelude.{◌≡◌, OnOk, OnErr, IfErr, [], length, nat_lt};
+ghost use Rattle.std.specs.Prelude.{◌≡◌, ◌≤◌, OnOk, OnErr, IfErr, [], length, nat_lt};
+ghost use Rattle.marc_types.specs.Limits.{most_entries};
 ghost use Rattle.catalogue_core.specs.Catalogues.{IsDue};
 ghost use Rattle.catalogue_rules.specs.Receipts.{receipts_behind};
 ghost use Rattle.console_lines.specs.Totals.{totals_of};
@@ -28,19 +29,20 @@ impl Model for Loaded {
 
     ghost Value = { LoadedView };
 
-    ghost view = { λ l. record { accepted = l.core.history; refused = l.refused.items } };
+    ghost view = { λ l. record { limits = l.core.limits; accepted = l.core.history; refused = l.refused.items } };
 
     ghost invariant = { λ l. IsCommitted l.core l.sums };
 }
 
 impl Loaded {
-    /// No item yet.
+    /// No item yet, and a catalogue with these limits.
     #[tactic(auto, using(crate::proofs::Summed::committed_none))]
-    pub fn new(alloc: Global) -> Loaded
-        ensures { result ≡ nothing_loaded }
+    pub fn new(alloc: Global, limits: Limits) -> Loaded
+        requires few { limits.entries ≤ most_entries }
+        ensures { result ≡ nothing_loaded limits }
     {
         Loaded {
-            core: Catalogue::empty(alloc, Limits::GREATEST),
+            core: Catalogue::empty(alloc, limits),
             sums: Sums::none(),
             refused: Vec::new(alloc),
         }
@@ -56,7 +58,7 @@ impl Loaded {
         steps: &mut Steps<L>,
     ) -> Result<(), CoreFault>
         ensures accepted { OnOk result (self.new ≡ with_accepted self.old item) }
-        ensures fault { IfErr result (IsDue (lacks_room self.old.accepted item)) }
+        ensures fault { IfErr result (IsDue (lacks_room self.old.limits self.old.accepted item)) }
         ensures err { OnErr result (self.new ≡ self.old) }
     {
         let receipt = self.core.commit(alloc, item, steps)?;
@@ -75,7 +77,7 @@ impl Loaded {
 
     /// The catalogue of the accepted entries.
     pub fn core(&self) -> &Catalogue
-        ensures { result.now ≡ holding self.now.accepted }
+        ensures { result.now ≡ holding self.now.limits self.now.accepted }
     {
         &self.core
     }
@@ -115,7 +117,7 @@ impl Loaded {
 
     /// The accepted entries are within the limits.
     pub fn is_within_limits(&self)
-        ensures { IsWithinLimits self.now.accepted }
+        ensures { IsWithinLimits self.now.limits self.now.accepted }
     {
         let _core = &self.core;
     }

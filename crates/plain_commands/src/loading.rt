@@ -1,18 +1,19 @@
-ghost use Rattle.std.specs.Prelude.{◌≡◌, ◌<◌, ◌≤◌, true, false, None, IsSomeAnd, IsTrue, IfOk, IfErr, []};
+ghost use Rattle.std.specs.Prelude.{◌≡◌, ◌<◌, ◌≤◌, false, None, IsTrue, IfOk, IfErr, []};
 ghost use Rattle.std.specs.Option.{option_map};
+ghost use Rattle.marc_types.specs.Limits.{most_entries};
 ghost use Rattle.marc_types.specs.Valid.{is_code};
 ghost use Rattle.outside.specs.Fault.{Rose};
 ghost use Rattle.outside.specs.Room.{SameBut};
 ghost use Rattle.marc_stream.specs.Pieces.{items};
 ghost use Rattle.file_entries.specs.Entries.{IsSameFile};
-ghost use Rattle.plain_commands.specs.Loading.{IsFaultOfLoading, IsLoaded, IsFullAt, LoadsItems, TakesNext, told_items};
+ghost use Rattle.plain_commands.specs.Loading.{IsFaultOfLoading, IsLoadedIn, IsFullIn, LoadsItems, TakesNext, told_items};
 
 use crate::loaded::Loaded;
 use catalogue_core::CoreFault;
 use catalogue_rules::Steps;
 use console_lines::Fault;
 use file_entries::{FileEntries, NextEntry};
-use marc_types::{NoMemory, Text};
+use marc_types::{Limits, NoMemory, Text};
 use outside::{Room, Source};
 use std::alloc::Global;
 use std::marker::Brand;
@@ -51,14 +52,16 @@ fn take_next<S: Source, L: Ledger>(
 
 fn load_entries<S: Source, L: Ledger>(
     alloc: Global,
+    limits: Limits,
     entries: &mut FileEntries<S>,
     steps: &mut Steps<L>,
 ) -> Result<Loaded, Fault>
+    requires few { limits.entries ≤ most_entries }
     requires going { entries.old.over ≡ false }
     requires loader { entries.old.loader ≡ 0 }
-    ensures { LoadsItems entries.old.library (told_items entries.old.stream) entries.old.stream.faults entries.new.stream.faults result }
+    ensures { LoadsItems limits entries.old.library (told_items entries.old.stream) entries.old.stream.faults entries.new.stream.faults result }
 {
-    let mut loaded = Loaded::new(alloc);
+    let mut loaded = Loaded::new(alloc, limits);
     'items: while take_next(alloc, entries, &mut loaded, steps)? {}
     loaded.is_within_limits();
     Ok(loaded)
@@ -67,48 +70,56 @@ fn load_entries<S: Source, L: Ledger>(
 /// Loads a source whose steps nobody asks for.
 fn load_counted<S: Source, L: Ledger>(
     alloc: Global,
+    limits: Limits,
     source: S,
     library: Text,
     blank: Blank,
 ) -> (Result<Loaded, Fault>, S)
+    requires few { limits.entries ≤ most_entries }
     requires library { IsTrue (is_code library) }
     requires name { blank.name ≡ L.name }
     requires parts { blank.parts ≡ L.parts }
     requires shared { 0 < blank.parts }
-    ensures { LoadsItems library (option_map items (S.left source)) (S.faults source) (S.faults result.1) result.0 }
+    ensures { LoadsItems limits library (option_map items (S.left source)) (S.faults source) (S.faults result.1) result.0 }
 {
     let mut steps = Steps::<L>::new(blank);
     match FileEntries::new(alloc, source, library, LOADER) {
         Ok(mut entries) => {
-            let loaded = load_entries(alloc, &mut entries, &mut steps);
+            let loaded = load_entries(alloc, limits, &mut entries, &mut steps);
             (loaded, entries.finish())
         }
         Err((source, NoMemory)) => (Err(Fault::Memory), source),
     }
 }
 
-/// Loads a source into an empty catalogue, and gives it back.
-pub fn load_source<S: Source>(alloc: Global, source: S, library: Text) -> (Result<Loaded, Fault>, S)
+/// Loads a source into an empty catalogue with these limits, and gives it back.
+pub fn load_source<S: Source>(
+    alloc: Global,
+    limits: Limits,
+    source: S,
+    library: Text,
+) -> (Result<Loaded, Fault>, S)
+    requires few { limits.entries ≤ most_entries }
     requires library { IsTrue (is_code library) }
-    ensures { LoadsItems library (option_map items (S.left source)) (S.faults source) (S.faults result.1) result.0 }
+    ensures { LoadsItems limits library (option_map items (S.left source)) (S.faults source) (S.faults result.1) result.0 }
 {
-    load_counted::<S, Brand>(alloc, source, library, Blank::new(1))
+    load_counted::<S, Brand>(alloc, limits, source, library, Blank::new(1))
 }
 
-/// Loads the file of that name into an empty catalogue. It is closed again on every path.
+/// Loads the file of that name into an empty catalogue with these limits. It is closed again on every path.
 pub fn load_file<R: Room>(
     alloc: Global,
+    limits: Limits,
     room: &mut R,
     name: &str,
     library: Text,
 ) -> Result<Loaded, Fault>
+    requires few { limits.entries ≤ most_entries }
     requires free { (R.seen room.old).open_as name.now ≡ None }
     requires library { IsTrue (is_code library) }
     ensures stays { SameBut (R.seen room.old) (R.seen room.new) [] }
-    ensures loaded { IfOk result (λ loaded. (R.seen room.old).tells ≡ true →
-        IsSomeAnd ((R.seen room.old).file name.now) (λ bytes. IsLoaded library (items bytes) loaded)) }
-    ensures full { IfErr result (λ fault. fault ≡ Fault.Full → (R.seen room.old).tells ≡ true →
-        IsSomeAnd ((R.seen room.old).file name.now) (λ bytes. IsFullAt library (items bytes))) }
+    ensures loaded { IfOk result (IsLoadedIn limits (R.seen room.old) name.now library) }
+    ensures full { IfErr result (IsFullIn limits (R.seen room.old) name.now library) }
     ensures cause { IfErr result (λ fault. fault ≡ Fault.Input →
         Rose ((R.seen room.old).in_faults name.now) ((R.seen room.new).in_faults name.now)) }
     ensures kind { IfErr result IsFaultOfLoading }
@@ -117,7 +128,7 @@ pub fn load_file<R: Room>(
         Ok(source) => source,
         Err(_) => return Err(Fault::Input),
     };
-    let (loaded, source) = load_source(alloc, source, library);
+    let (loaded, source) = load_source(alloc, limits, source, library);
     room.close_in(name, source);
     loaded
 }

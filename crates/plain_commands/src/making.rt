@@ -1,4 +1,4 @@
-ghost use Rattle.marc_types.specs.Limits.{most_entries};
+ghost use Rattle.marc_types.specs.Limits.{most_made};
 ghost use Rattle.std.specs.Prelude.{◌≡◌, ◌≤◌, ℕ, List, None, ◌∷◌, []};
 ghost use Rattle.outside.specs.Room.{SameBut};
 ghost use Rattle.console_lines.specs.Ends.{outcome};
@@ -22,14 +22,14 @@ struct Workload {
 
 impl Model for Workload {
     ghost use Rattle.std.specs.Prelude.{List, ℕ, ◌≤◌};
-    ghost use Rattle.marc_types.specs.Limits.{most_entries};
+    ghost use Rattle.marc_types.specs.Limits.{most_made};
     ghost use Rattle.workload.specs.Workload.{workload_bytes};
 
     ghost Value = { List ℕ };
 
     ghost view = { λ w. workload_bytes w.seed w.count };
 
-    ghost invariant = { λ w. w.count ≤ most_entries };
+    ghost invariant = { λ w. w.count ≤ most_made };
 }
 
 impl Document for Workload {
@@ -53,7 +53,7 @@ pub fn make<R: Room>(
     count: u64,
     out: &str,
 ) -> End
-    requires few { count ≤ most_entries }
+    requires few { count ≤ most_made }
     requires closed { (name : List ℕ) → (R.seen room.old).open_as name ≡ None }
     ensures closed { (name : List ℕ) → (R.seen room.new).open_as name ≡ None }
     ensures apart { SameBut (R.seen room.old) (R.seen room.new) (out.now ∷ []) }

@@ -1,11 +1,10 @@
-ghost use Rattle.std.specs.Prelude.{◌≡◌, ℕ, List, true, None, IsTrue, ◌∷◌, []};
+ghost use Rattle.std.specs.Prelude.{◌≡◌, ℕ, List, None, IsTrue, ◌∷◌, []};
 ghost use Rattle.marc_types.specs.Valid.{is_code};
 ghost use Rattle.outside.specs.Room.{SameBut};
-ghost use Rattle.command_words.specs.declared.library.Library.{Library};
-ghost use Rattle.console_lines.specs.Ends.{outcome, IsTold};
-ghost use Rattle.plain_commands.specs.Passing.{FileDue, export_due, IsReady, IsPassDelivered, EndsDelivering, Passes};
+ghost use Rattle.console_lines.specs.Ends.{outcome};
+ghost use Rattle.plain_commands.specs.Passing.{export_due, TellsMemoryAlone, Delivers, DeliversFile, EndsDelivering, Passes};
 
-use crate::ready::{Ready, prepare};
+use crate::ready::{Ready, limits_of, prepare};
 use command_words::Library;
 use console_lines::{End, Fault, Unwritten, tell, tell_result};
 use marc_types::NoMemory;
@@ -29,12 +28,10 @@ pub(crate) fn deliver<R: Room, D: Document>(
     ensures no_fault { (why : Fault) → result ≡ End.Told why → ⊥ }
 
     // Which of the two could not be written.
-    ensures unwritten { EndsDelivering out.now
-        (outcome R.seen R.Out.written R.Out.faults room.old room.new console.old console.new result) }
+    ensures unwritten { EndsDelivering out.now (outcome R.seen R.Out.written R.Out.faults room.old room.new console.old console.new result) }
 
     // What is there then, of a file with these bytes, where the document is what is due of it.
-    ensures delivered { (due : FileDue) (library : Library) (bytes : List ℕ) → (R.seen room.old).tells ≡ true → IsReady library bytes ready.now →
-        D.due document ≡ due bytes ready.now.loaded.accepted ready.now.loaded.refused → IsPassDelivered due library bytes out.now
+    ensures delivered { Delivers (D.due document) ready.now out.now
         (outcome R.seen R.Out.written R.Out.faults room.old room.new console.old console.new result) }
 {
     match write_document(room, out, document) {
@@ -59,16 +56,13 @@ fn deliver_export<R: Room>(
     ensures closed { (R.seen room.new).open_as out.now ≡ None }
 
     // Want of memory alone is told, and then OUT isn't begun.
-    ensures fault { (why : Fault) → result ≡ End.Told why → (why ≡ Fault.Memory) × SameBut (R.seen room.old) (R.seen room.new) [] ×
-        IsTold why (outcome R.seen R.Out.written R.Out.faults room.old room.new console.old console.new result) }
+    ensures fault { TellsMemoryAlone (outcome R.seen R.Out.written R.Out.faults room.old room.new console.old console.new result) }
 
     // Which of the two could not be written.
-    ensures unwritten { EndsDelivering out.now
-        (outcome R.seen R.Out.written R.Out.faults room.old room.new console.old console.new result) }
+    ensures unwritten { EndsDelivering out.now (outcome R.seen R.Out.written R.Out.faults room.old room.new console.old console.new result) }
 
     // What is there then, of a file with these bytes.
-    ensures delivered { (library : Library) (bytes : List ℕ) → (R.seen room.old).tells ≡ true → IsReady library bytes ready.now →
-        IsPassDelivered export_due library bytes out.now
+    ensures delivered { DeliversFile export_due ready.now out.now
         (outcome R.seen R.Out.written R.Out.faults room.old room.new console.old console.new result) }
 {
     match Export::of(alloc, ready.loaded.core(), None) {
@@ -77,8 +71,8 @@ fn deliver_export<R: Room>(
     }
 }
 
-/// The command `pass`: one file through an empty catalogue, into the file `out`. It tells an input's fault, a file that has
-/// more than a catalogue takes, and want of memory.
+/// The command `pass`: one file through an empty catalogue with the room's limits, into the file `out`. It tells an input's fault, a
+/// file that has more than these limits allow, and want of memory.
 #[tactic(auto, using(outside::proofs::Closings::closed_one))]
 pub fn pass<R: Room>(
     alloc: Global,
@@ -94,7 +88,8 @@ pub fn pass<R: Room>(
     ensures ends { Passes library.now out.now
         (outcome R.seen R.Out.written R.Out.faults room.old room.new console.old console.new result) }
 {
-    match prepare(alloc, room, library) {
+    let limits = limits_of(room);
+    match prepare(alloc, limits, room, library) {
         Ok(ready) => {
             let end = deliver_export(alloc, room, console, out, &ready);
             // its memory is given back by the end of the process, which comes now

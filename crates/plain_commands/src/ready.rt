@@ -1,16 +1,17 @@
-ghost use Rattle.std.specs.Prelude.{◌≡◌, ◌≢◌, ℕ, List, true, None, IsSomeAnd, IsTrue, IfOk, IfErr, []};
+ghost use Rattle.std.specs.Prelude.{◌≡◌, ◌≢◌, ◌≤◌, None, IsTrue, IfOk, IfErr, []};
+ghost use Rattle.marc_types.specs.Limits.{most_entries, limits_of};
 ghost use Rattle.marc_types.specs.Valid.{is_code};
 ghost use Rattle.outside.specs.Fault.{Rose};
 ghost use Rattle.outside.specs.Room.{SameBut};
 ghost use Rattle.marc_stream.specs.Pieces.{items};
-ghost use Rattle.plain_commands.specs.Loading.{IsFaultOfLoading, IsLoaded, IsFullAt};
-ghost use Rattle.plain_commands.specs.Passing.{IsReady};
+ghost use Rattle.plain_commands.specs.Loading.{IsFaultOfLoading, IsFullAt, IsFullIn};
+ghost use Rattle.plain_commands.specs.Passing.{IsReady, IsReadyIn, IsReadyOf};
 
 use crate::loaded::Loaded;
 use crate::loading::{load_file, load_source};
 use command_words::Library;
 use console_lines::{Fault, results_text};
-use marc_types::{NoMemory, TryCopy};
+use marc_types::{Limits, NoMemory, TryCopy};
 use outside::Room;
 use outside_sure::SureSource;
 use std::alloc::Global;
@@ -23,8 +24,17 @@ pub struct Ready {
     pub text: String,
 }
 
+/// The limits that a catalogue of a command over this room has.
+#[tactic(auto, using(marc_types::proofs::WithinLimits::limits_within))]
+pub fn limits_of<R: Room>(room: &R) -> Limits
+    ensures are { result ≡ limits_of (R.seen room.now).is_large }
+    ensures few { result.entries ≤ most_entries }
+{
+    Limits::of(room.is_large())
+}
+
 fn ready_of(alloc: Global, library: &Library, loaded: Loaded) -> Result<Ready, NoMemory>
-    ensures { IfOk result (λ ready. (bytes : List ℕ) → IsLoaded library.now.code (items bytes) loaded → IsReady library.now bytes ready) }
+    ensures { IfOk result (IsReadyOf loaded library.now) }
 {
     let text = results_text(
         alloc,
@@ -35,11 +45,17 @@ fn ready_of(alloc: Global, library: &Library, loaded: Loaded) -> Result<Ready, N
     Ok(Ready { loaded, text })
 }
 
-/// Makes what is to be written and told of a file with these bytes.
-pub fn prepare_bytes(alloc: Global, library: &Library, bytes: &[u8]) -> Result<Ready, Fault>
+/// Makes what is to be written and told of a file with these bytes, by a catalogue with these limits.
+pub fn prepare_bytes(
+    alloc: Global,
+    limits: Limits,
+    library: &Library,
+    bytes: &[u8],
+) -> Result<Ready, Fault>
+    requires few { limits.entries ≤ most_entries }
     requires proper { IsTrue (is_code library.now.code) }
-    ensures ready { IfOk result (IsReady library.now bytes.now) }
-    ensures full { IfErr result (λ fault. fault ≡ Fault.Full → IsFullAt library.now.code (items bytes.now)) }
+    ensures ready { IfOk result (IsReady limits library.now bytes.now) }
+    ensures full { IfErr result (λ fault. fault ≡ Fault.Full → IsFullAt limits library.now.code (items bytes.now)) }
     ensures kind { IfErr result IsFaultOfLoading }
     ensures read { IfErr result (λ fault. fault ≢ Fault.Input) }
 {
@@ -47,7 +63,7 @@ pub fn prepare_bytes(alloc: Global, library: &Library, bytes: &[u8]) -> Result<R
         Ok(code) => code,
         Err(NoMemory) => return Err(Fault::Memory),
     };
-    let (loaded, _source) = load_source(alloc, SureSource::new(bytes), code);
+    let (loaded, _source) = load_source(alloc, limits, SureSource::new(bytes), code);
     let loaded = match loaded {
         Ok(loaded) => loaded,
         Err(fault) => return Err(fault),
@@ -58,15 +74,19 @@ pub fn prepare_bytes(alloc: Global, library: &Library, bytes: &[u8]) -> Result<R
     }
 }
 
-/// Reads a file whole, and makes what is to be written and told of it.
-pub fn prepare<R: Room>(alloc: Global, room: &mut R, library: &Library) -> Result<Ready, Fault>
+/// Reads a file whole, and makes what is to be written and told of it, by a catalogue with these limits.
+pub fn prepare<R: Room>(
+    alloc: Global,
+    limits: Limits,
+    room: &mut R,
+    library: &Library,
+) -> Result<Ready, Fault>
+    requires few { limits.entries ≤ most_entries }
     requires free { (R.seen room.old).open_as library.now.file ≡ None }
     requires proper { IsTrue (is_code library.now.code) }
     ensures stays { SameBut (R.seen room.old) (R.seen room.new) [] }
-    ensures ready { IfOk result (λ ready. (R.seen room.old).tells ≡ true →
-        IsSomeAnd ((R.seen room.old).file library.now.file) (λ bytes. IsReady library.now bytes ready)) }
-    ensures full { IfErr result (λ fault. fault ≡ Fault.Full → (R.seen room.old).tells ≡ true →
-        IsSomeAnd ((R.seen room.old).file library.now.file) (λ bytes. IsFullAt library.now.code (items bytes))) }
+    ensures ready { IfOk result (IsReadyIn limits (R.seen room.old) library.now) }
+    ensures full { IfErr result (IsFullIn limits (R.seen room.old) library.now.file library.now.code) }
     ensures cause { IfErr result (λ fault. fault ≡ Fault.Input →
         Rose ((R.seen room.old).in_faults library.now.file) ((R.seen room.new).in_faults library.now.file)) }
     ensures kind { IfErr result IsFaultOfLoading }
@@ -75,7 +95,7 @@ pub fn prepare<R: Room>(alloc: Global, room: &mut R, library: &Library) -> Resul
         Ok(code) => code,
         Err(NoMemory) => return Err(Fault::Memory),
     };
-    let loaded = match load_file(alloc, room, library.file.as_str(), code) {
+    let loaded = match load_file(alloc, limits, room, library.file.as_str(), code) {
         Ok(loaded) => loaded,
         Err(fault) => return Err(fault),
     };

@@ -1,4 +1,4 @@
-ghost use Rattle.marc_types.specs.Limits.{most_entries};
+ghost use Rattle.marc_types.specs.Limits.{most_made};
 ghost use Rattle.std.specs.Prelude.{◌≡◌, ◌<◌, ◌≤◌, false, OnOk, IfOk, string_bytes};
 ghost use Rattle.plain_commands.specs.Loading.{lacks_room, with_accepted};
 ghost use Rattle.plain_commands.specs.Making.{workload_sums, workload_line};
@@ -10,7 +10,7 @@ use catalogue_core::CoreFault;
 use catalogue_rules::Steps;
 use console_lines::made_line;
 use entry_record::Prepared;
-use marc_types::{NoMemory, Sums};
+use marc_types::{Limits, NoMemory, Sums};
 use std::alloc::Global;
 use std::marker::Brand;
 use std::sync::ledger::{Blank, Ledger};
@@ -22,7 +22,7 @@ fn commit<L: Ledger>(
     entry: Prepared,
     steps: &mut Steps<L>,
 ) -> Result<(), NoMemory>
-    requires { lacks_room loaded.old.accepted entry ≡ false }
+    requires { lacks_room loaded.old.limits loaded.old.accepted entry ≡ false }
     ensures { OnOk result (loaded.new ≡ with_accepted loaded.old entry) }
 {
     match loaded.commit(alloc, entry, steps) {
@@ -41,7 +41,7 @@ fn sum_counted<L: Ledger>(
     count: u64,
     blank: Blank,
 ) -> Result<Sums, NoMemory>
-    requires few { count ≤ most_entries }
+    requires few { count ≤ most_made }
     requires name { blank.name ≡ L.name }
     requires parts { blank.parts ≡ L.parts }
     requires shared { 0 < blank.parts }
@@ -50,7 +50,7 @@ fn sum_counted<L: Ledger>(
     workloads_are_within_limits(seed, count);
     let mut steps = Steps::<L>::new(blank);
     let mut entries = Entries::new(alloc, seed, count)?;
-    let mut loaded = Loaded::new(alloc);
+    let mut loaded = Loaded::new(alloc, Limits::PLAIN);
     'entries: while let Some(entry) = entries.next(alloc)? {
         commit(alloc, &mut loaded, entry, &mut steps)?;
     }
@@ -59,7 +59,7 @@ fn sum_counted<L: Ledger>(
 
 /// Commits the records of a workload to an empty catalogue, and sums their receipts.
 fn sum_workload(alloc: Global, seed: u64, count: u64) -> Result<Sums, NoMemory>
-    requires { count ≤ most_entries }
+    requires { count ≤ most_made }
     ensures { IfOk result (λ sums. sums ≡ workload_sums seed count) }
 {
     sum_counted::<Brand>(alloc, seed, count, Blank::new(1))
@@ -67,7 +67,7 @@ fn sum_workload(alloc: Global, seed: u64, count: u64) -> Result<Sums, NoMemory>
 
 /// What the console is told of a workload.
 pub fn workload_text(alloc: Global, seed: u64, count: u64) -> Result<String, NoMemory>
-    requires { count ≤ most_entries }
+    requires { count ≤ most_made }
     ensures { IfOk result (λ text. string_bytes text ≡ workload_line seed count) }
 {
     made_line(alloc, count, &sum_workload(alloc, seed, count)?)

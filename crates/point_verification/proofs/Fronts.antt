@@ -2,13 +2,13 @@
 use Rattle.std.proofs.Common.{◌≡◌, ◌∙◌, ◌↔◌, ◌≤◌, ℕ, Bool, true, false, true≢false, List, length, take, Option, Some, None, Result, Ok, Err, sym, ap, subst}
 use Rattle.std.specs.Prelude.{IfSome, IfErr}
 use Rattle.marc_types.specs.declared.entry.Entry.{Entry}
+use Rattle.marc_types.specs.declared.entry.Limits.{Limits}
 use Rattle.catalogue_rules.specs.State.{State}
 use Rattle.catalogue_rules.specs.Settle.{state_of}
 use Rattle.console_lines.specs.declared.fault.Fault.{Fault}
 use Rattle.console_lines.specs.declared.fault.Fault.TheVariants.{OtherHistory}
 use Rattle.entry_record.specs.History.{IsWithin}
 use Rattle.durable_catalogue.specs.Logs.{HasHistory}
-use Rattle.journal_files.specs.Journals.{journal_limits}
 use Rattle.kept_rows.specs.Rows.{state_of_rows}
 use Rattle.kept_rows.specs.declared.row.KeptRow.{KeptRow}
 use Rattle.checkpoint.specs.declared.point.Point.{Point}
@@ -35,8 +35,8 @@ module _ (history : List Entry) (last : Option Point) where
         NotOwn (subst (λ l. IfSome l (λ point. IsOfFront history point → ⊥)) (sym some) (λ own. true≢false (sym (is.1 own) ∙ refused)))
 
 -- both files' bytes are taken, and the last checkpoint isn't the history's own
-pub not_own : (journal point : List ℕ) (history entries : List Entry) (last : Option Point) (result : Result (ℕ × ℕ) Fault) → HasHistory history journal
-    → IsWithin journal_limits history → entries ≡ history → IsPointLog last point → IfErr result (IsNotOwnOf entries last) → IfErr result (WhyNotOwn journal point)
-not_own journal point history entries last (Ok told) has within same is_last own = tt
-not_own journal point history entries last (Err why) has within same is_last not =
+pub not_own : (limits : Limits) (journal point : List ℕ) (history entries : List Entry) (last : Option Point) (result : Result (ℕ × ℕ) Fault) → HasHistory history journal
+    → IsWithin limits history → entries ≡ history → IsPointLog last point → IfErr result (IsNotOwnOf entries last) → IfErr result (WhyNotOwn limits journal point)
+not_own limits journal point history entries last (Ok told) has within same is_last own = tt
+not_own limits journal point history entries last (Err why) has within same is_last not =
     OfBoth history has within last is_last (subst (λ es. IsNotOwnOf es last why) same not)

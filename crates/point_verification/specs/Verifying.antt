@@ -2,6 +2,7 @@
 use Rattle.std.specs.Prelude.{◌≡◌, ◌≢◌, ◌⊎◌, ℕ, true, List, length, Option, Some, IfSome}
 use Rattle.std.specs.Io.KnownBytes.{Appends}
 use Rattle.marc_types.specs.declared.entry.Entry.{Entry}
+use Rattle.marc_types.specs.declared.entry.Limits.{Limits}
 use Rattle.outside.specs.Fault.{Rose}
 use Rattle.outside.specs.Sink.{WritesFront}
 use Rattle.entry_record.specs.History.{IsWithin}
@@ -52,25 +53,25 @@ pub data IsNotOwnOf (history : List Entry) (last : Option Point) : Fault → Typ
   NotOwn : IfSome last (λ point. IsOfFront history point → ⊥) → IsNotOwnOf history last OtherHistory
   NoRoom : IsNotOwnOf history last Memory
 
--- The bytes of the one are a journal's, with a history within the limits, and those of the other are a log of checkpoints, the last of
+-- The bytes of the one are a journal's, with a history within these limits, and those of the other are a log of checkpoints, the last of
 -- which is of a front of that history, and holds so many entries of so many.
-pub record AreOwn (journal point : List ℕ) (held count : ℕ) : Type 0 where
+pub record AreOwn (limits : Limits) (journal point : List ℕ) (held count : ℕ) : Type 0 where
   pub history : List Entry
   pub has : HasHistory history journal
-  pub within : IsWithin journal_limits history
+  pub within : IsWithin limits history
   pub last : Option Point
   pub is_last : IsPointLog last point
   pub own : IsOwnOf history last held count
 
--- Why that isn't told: the bytes of the journal are not taken; or they are, and those of the log of checkpoints are not; or both are, and
+-- Why that isn't told: the bytes of the journal are not taken, by these limits; or they are, and those of the log of checkpoints are not; or both are, and
 -- its last checkpoint isn't the history's own.
-pub data WhyNotOwn (journal point : List ℕ) (why : Fault) : Type 0 where
-  OfJournal : (reason : OpenFault) → reason ≢ opening.OldVersion → why ≡ fault_of_look reason → IsUnopened journal_limits journal reason
-      → WhyNotOwn journal point why
-  OfPoint : (history : List Entry) → HasHistory history journal → IsWithin journal_limits history → (reason : OpenFault) → why ≡ fault_of_look reason
-      → IsUntaken point reason → WhyNotOwn journal point why
-  OfBoth : (history : List Entry) → HasHistory history journal → IsWithin journal_limits history → (last : Option Point) → IsPointLog last point
-      → IsNotOwnOf history last why → WhyNotOwn journal point why
+pub data WhyNotOwn (limits : Limits) (journal point : List ℕ) (why : Fault) : Type 0 where
+  OfJournal : (reason : OpenFault) → reason ≢ opening.OldVersion → why ≡ fault_of_look reason → IsUnopened limits journal reason
+      → WhyNotOwn limits journal point why
+  OfPoint : (history : List Entry) → HasHistory history journal → IsWithin limits history → (reason : OpenFault) → why ≡ fault_of_look reason
+      → IsUntaken point reason → WhyNotOwn limits journal point why
+  OfBoth : (history : List Entry) → HasHistory history journal → IsWithin limits history → (last : Option Point) → IsPointLog last point
+      → IsNotOwnOf history last why → WhyNotOwn limits journal point why
 
 -- Files of these bytes were there, and the console was told how many entries the checkpoint holds, and of how many; where it could not be
 -- written it was told a front of that.
@@ -81,7 +82,7 @@ pub record IsToldOwn (journal point : List ℕ) (o : Outcome) : Type 0 where
   pub point_file : o.old.file point ≡ Some point_bytes
   pub held : ℕ
   pub count : ℕ
-  pub own : AreOwn history_bytes point_bytes held count
+  pub own : AreOwn (journal_limits o.old) history_bytes point_bytes held count
   pub line : o.end ≡ Done → Appends o.told o.now (resumed_line held count)
   pub front : o.end ≡ console_unwritten → WritesFront o.told o.now (resumed_line held count)
 
@@ -91,7 +92,7 @@ pub record IsToldWhyNotOwn (journal point : List ℕ) (why : Fault) (o : Outcome
   pub history_file : o.old.file journal ≡ Some history_bytes
   pub point_bytes : List ℕ
   pub point_file : o.old.file point ≡ Some point_bytes
-  pub so : WhyNotOwn history_bytes point_bytes why
+  pub so : WhyNotOwn (journal_limits o.old) history_bytes point_bytes why
 
 -- The command `verify` over a journal and a log of checkpoints: it ends with 0 where the last checkpoint is of a front of the journal's
 -- history, whole, and where that isn't so it doesn't. No file changes.

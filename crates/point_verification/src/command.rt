@@ -5,14 +5,15 @@ ghost use Rattle.point_verification.specs.Verifying.{VerifiesPoint};
 
 use crate::judging::judged;
 use console_lines::{End, Unwritten, tell, write_resumed};
+use journal_files::limits_of;
 use memory_files::read_file;
 use outside::Room;
 use std::alloc::Global;
 use unheld_journals::fault_of_reading;
 
 /// The command `verify` over a journal and a log of checkpoints: tells how many entries the last checkpoint holds, and of how many, where
-/// it is the journal's own, and else that it is of another history. Both files are read whole as inputs, the log of checkpoints first; no
-/// file changes.
+/// it is the journal's own, and else that it is of another history. The journal's history is judged by the room's limits. Both files are
+/// read whole as inputs, the log of checkpoints first; no file changes.
 pub fn verify_point<R: Room>(
     alloc: Global,
     room: &mut R,
@@ -26,6 +27,7 @@ pub fn verify_point<R: Room>(
     ensures ends { VerifiesPoint journal.now point.now
         (outcome R.seen R.Out.written R.Out.faults room.old room.new console.old console.new result) }
 {
+    let limits = limits_of(room);
     // A journal only grows: read behind it, the journal has what a checkpoint holds that is made meanwhile.
     let log = match read_file(alloc, room, point) {
         Ok(bytes) => bytes,
@@ -35,7 +37,7 @@ pub fn verify_point<R: Room>(
         Ok(bytes) => bytes,
         Err(fault) => return tell(console, fault_of_reading(fault)),
     };
-    match judged(alloc, history, log) {
+    match judged(alloc, limits, history, log) {
         Ok((held, count)) => match write_resumed(console, held, count) {
             Ok(()) => End::Done,
             Err(_) => End::Unwritten(Unwritten::Console),

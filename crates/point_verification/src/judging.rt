@@ -7,6 +7,7 @@ use crate::owning::is_own;
 use checkpoint::Point;
 use console_lines::Fault;
 use entry_history::EntryPayload;
+use marc_types::Limits;
 use std::alloc::Global;
 use unheld_journals::fault_of_look;
 
@@ -27,12 +28,18 @@ fn own_of(alloc: Global, entries: &[EntryPayload], last: Option<Point>) -> Resul
     Ok((last.entries, entries.len() as u64))
 }
 
-/// How many entries the last checkpoint holds, of how many, where it is the journal's own; or why nothing is told of it.
-pub(crate) fn judged(alloc: Global, journal: Vec<u8>, point: Vec<u8>) -> Result<(u64, u64), Fault>
-    ensures own { IfOk result (λ told. AreOwn journal.items point.items told.0 told.1) }
-    ensures not_own { IfErr result (WhyNotOwn journal.items point.items) }
+/// How many entries the last checkpoint holds, of how many, where it is the journal's own and the journal's history is within these
+/// limits; or why nothing is told of it.
+pub(crate) fn judged(
+    alloc: Global,
+    limits: Limits,
+    journal: Vec<u8>,
+    point: Vec<u8>,
+) -> Result<(u64, u64), Fault>
+    ensures own { IfOk result (λ told. AreOwn limits journal.items point.items told.0 told.1) }
+    ensures not_own { IfErr result (WhyNotOwn limits journal.items point.items) }
 {
-    let entries = match history_of(alloc, journal) {
+    let entries = match history_of(alloc, limits, journal) {
         Ok(entries) => entries,
         Err(fault) => return Err(fault_of_look(fault)),
     };

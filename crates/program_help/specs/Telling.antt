@@ -9,7 +9,7 @@ use Rattle.console_lines.specs.declared.end.End.TheVariants.{Done, Refused, Unwr
 use Rattle.console_lines.specs.declared.end.Unwritten.TheVariants.{Out, Side, Pages, Console}
 use Rattle.command_words.specs.declared.topic.Topic.{Topic}
 use Rattle.command_words.specs.declared.topic.Topic.TheVariants as topic
-use Rattle.program_help.specs.declared.texts.TheConstants.{ALL, PASS, RUN, LOAD, BROWSE, EXPORT, REPORT, MAKE, VERIFY, MATCHES, HOLDINGS, HEADINGS, WORKLIST, MIGRATE, SALVAGE, CHECKPOINT, QUICK, READING, REFUSED, HELP, VERSION, STATUSES, THIS_VERSION}
+use Rattle.program_help.specs.declared.texts.TheConstants.{ALL, PASS, RUN, LOAD, BROWSE, EXPORT, REPORT, MAKE, VERIFY, MATCHES, HOLDINGS, HEADINGS, WORKLIST, MIGRATE, SALVAGE, CHECKPOINT, QUICK, READING, REFUSED, LARGE, HELP, VERSION, STATUSES, THIS_VERSION}
 
 -- the text of a topic
 abbrev pub help_text : Topic → List ℕ
@@ -32,6 +32,7 @@ help_text topic.Checkpoint = CHECKPOINT.now
 help_text topic.Quick = QUICK.now
 help_text topic.Reading = READING.now
 help_text topic.Refused = REFUSED.now
+help_text topic.Large = LARGE.now
 help_text topic.Help = HELP.now
 help_text topic.Version = VERSION.now
 help_text topic.Statuses = STATUSES.now

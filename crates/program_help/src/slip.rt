@@ -28,6 +28,10 @@ pub enum Slip<'a> {
     Unread {
         word: &'a str,
     },
+    /// A command behind `large` that isn't had so.
+    Unlimited {
+        word: &'a str,
+    },
     TooFew {
         topic: Topic,
     },
@@ -96,7 +100,7 @@ enum Files {
     Many,
 }
 
-const VERBS: [&str; 20] = [
+const VERBS: [&str; 21] = [
     "pass",
     "run",
     "load",
@@ -115,6 +119,7 @@ const VERBS: [&str; 20] = [
     "quick",
     "reading",
     "refused",
+    "large",
     "help",
     "version",
 ];
@@ -124,6 +129,44 @@ pub fn slip_in<'a>(alloc: Global, words: &'a [Text]) -> Result<Slip<'a>, NoMemor
     let Some((verb, behind)) = words.split_first() else {
         return Ok(Slip::NoCommand);
     };
+    if verb.as_str() == "large" {
+        return slip_of_large(alloc, behind);
+    }
+    slip_of_command(alloc, verb, behind)
+}
+
+/// Whether a command is none behind `large`.
+fn takes_no_large(verb: &str) -> bool {
+    let is_option = matches!(verb, "--help" | "-h" | "--version" | "-V");
+    let topic = named_topic(verb);
+    is_option
+        || matches!(
+            topic,
+            Some(Topic::Make | Topic::Help | Topic::Version | Topic::Large)
+        )
+}
+
+/// What is wrong with the words behind `large`, the first of which is a command's name.
+fn slip_of_large<'a>(alloc: Global, behind: &'a [Text]) -> Result<Slip<'a>, NoMemory> {
+    let Some((verb, behind)) = behind.split_first() else {
+        return Ok(Slip::TooFew {
+            topic: Topic::Large,
+        });
+    };
+    if takes_no_large(verb.as_str()) {
+        return Ok(Slip::Unlimited {
+            word: verb.as_str(),
+        });
+    }
+    slip_of_command(alloc, verb, behind)
+}
+
+/// What is wrong with a command's name, or with the words behind it.
+fn slip_of_command<'a>(
+    alloc: Global,
+    verb: &'a Text,
+    behind: &'a [Text],
+) -> Result<Slip<'a>, NoMemory> {
     match named_topic(verb.as_str()) {
         Some(topic) if topic != Topic::Statuses => slip_behind(alloc, topic, behind),
         _ => Ok(Slip::Unknown {
@@ -164,7 +207,9 @@ fn form_of(topic: Topic, words: usize) -> Form {
         Topic::Worklist => (3, Files::None, true),
         Topic::Holdings => (3, Files::One, true),
         Topic::Headings | Topic::Reading => (2, Files::None, false),
-        Topic::Help | Topic::All | Topic::Version | Topic::Statuses => (0, Files::None, false),
+        Topic::Large | Topic::Help | Topic::All | Topic::Version | Topic::Statuses => {
+            (0, Files::None, false)
+        }
     };
     Form {
         topic,
@@ -406,6 +451,7 @@ impl Slip<'_> {
         match *self {
             Slip::NoCommand | Slip::Unknown { .. } => None,
             Slip::Unread { .. } => Some(Topic::Reading),
+            Slip::Unlimited { .. } => Some(Topic::Large),
             Slip::TooFew { topic }
             | Slip::TooMany { topic, .. }
             | Slip::TooManyFiles { topic, .. }
@@ -433,6 +479,10 @@ impl Slip<'_> {
             Slip::Unread { word } => write!(
                 f,
                 "reading stands before export, report, matches, holdings, headings or worklist, and not before {word}"
+            ),
+            Slip::Unlimited { word } => write!(
+                f,
+                "large stands before every command but make, help and version, and not before {word}"
             ),
             Slip::TooFew { .. } => f.write_str("a word is missing"),
             Slip::TooMany { first, .. } => write!(f, "one word too many: {first}"),

@@ -30,6 +30,7 @@ pub(crate) fn text_of(topic: Topic) -> &'static str
         Topic::Quick => texts::QUICK,
         Topic::Reading => texts::READING,
         Topic::Refused => texts::REFUSED,
+        Topic::Large => texts::LARGE,
         Topic::Help => texts::HELP,
         Topic::Version => texts::VERSION,
         Topic::Statuses => texts::STATUSES,

@@ -24,6 +24,8 @@ reading export JOURNAL OUT [CODE]    the same without holding JOURNAL, even
                                      while a load has it; also report, matches,
                                      holdings, headings and worklist
 refused OUT CODE=FILE                write the pieces of a file that are refused
+large COMMAND ..                     any of these but make, for a catalogue of
+                                     more than 1048576 records or 512 MiB
 help [COMMAND]                       tell this, or how that command is used
 version                              tell the program's version
 ";
@@ -92,8 +94,9 @@ why:
   14 it is too long, or a field leaves no room for a longer heading
   15 a text in MARC-8 uses another set than the Latin ones
   17 in holdings: it has no 004 that can be a key's
-A journal takes 1,048,576 records, or 536,870,912 bytes, all that ever came.
-A file is read up to its first 1 GiB.
+A journal takes 1,048,576 records, or 536,870,912 bytes, all that ever came; and
+with large before load 134,217,728 records, or 137,438,953,472 bytes.
+A file is read up to its first 1 GiB, and with large 1 TiB.
 ";
 
 /// The page of `browse`.
@@ -341,6 +344,24 @@ records than a catalogue takes; 8 memory ran out.
 Example: union_cat refused back.mrc ULIB=new.mrc
 ";
 
+/// The page of `large`.
+pub const LARGE: &str = "union_cat large COMMAND ..
+
+Does what COMMAND does, for a catalogue of up to 134,217,728 records and
+137,438,953,472 bytes, in place of 1,048,576 and 536,870,912, and with files of
+up to 1 TiB each, in place of 1 GiB. COMMAND is any but make, help and version.
+A journal that passes 1,048,576 records or 536,870,912 bytes is refused with 7
+without large. verify, reading and salvage end with 3 where it has more than
+1 GiB; verify of a shorter one needs no large. Put large before each command
+over such a journal, and never split it. It has no mark of it.
+The catalogue is kept in memory: some 0.42 GB for each 1,000,000 records that
+make makes, and 3 GB for those of 1,000 bytes. Some commands take up to 1.7
+times what load takes, so copy the journal before a large load.
+Writes: what COMMAND writes.
+Status: as COMMAND has it.
+Example: union_cat large load union.jnl ALIB=a.mrc
+";
+
 /// The page of `help`.
 pub const HELP: &str = "union_cat help
 union_cat help COMMAND
@@ -375,7 +396,7 @@ The exit statuses of all commands:
   4  an output or the console couldn't be written
   5  the journal couldn't be read or written
   6  the file is no journal, or a damaged one
-  7  there are more records than a catalogue takes
+  7  there are more records than a catalogue takes; large takes more
   8  memory ran out
   9  the journal, POINT or NEW is of version 1; in migrate: OLD isn't
   10 in migrate and salvage: NEW has another history; in verify: POINT or HEX

@@ -2,6 +2,7 @@
 use Rattle.std.proofs.Common.{◌≡◌, ◌≢◌, ◌∙◌, ◌⊎◌, inl, inr, ℕ, true, List, [], ◌∷◌, Option, Some, Result, Ok, Err, OnOk, refl, sym, subst}
 use Rattle.std.specs.Prelude.{IsSomeAnd, IfErr, string_bytes}
 use Rattle.marc_types.specs.declared.entry.Entry.{Entry}
+use Rattle.marc_types.specs.declared.entry.Limits.{Limits}
 use Rattle.outside.specs.Fault.{Rose}
 use Rattle.outside.specs.Room.{RoomView, SameBut}
 use Rattle.outside.proofs.Counts.{rose_since}
@@ -21,7 +22,7 @@ use Rattle.console_lines.specs.declared.end.Unwritten.TheVariants.{Out, Side, Pa
 use Rattle.console_lines.specs.declared.end.OutputsFault.{OutputsFault}
 use Rattle.console_lines.specs.declared.end.OutputsFault.TheVariants.{NoMemory as RanOut, Unwritten as NotBoth}
 use Rattle.console_lines.specs.declared.fault.Fault.{Fault}
-use Rattle.console_lines.specs.declared.fault.Fault.TheVariants.{Usage, Input, Device, NotAJournal, Full, Memory, OldVersion, OtherHistory}
+use Rattle.console_lines.specs.declared.fault.Fault.TheVariants.{Input, Memory}
 use Rattle.console_lines.proofs.Ends.{told_once, told_not_unwritten, never_told}
 use Rattle.memory_files.specs.declared.reading.ReadFault.{ReadFault}
 use Rattle.memory_files.specs.declared.reading.ReadFault.TheVariants as read
@@ -31,12 +32,13 @@ use Rattle.output_files.specs.Kept.{kept_keys}
 use Rattle.output_files.specs.Outputs.{AreWritten, AreStopped, AtFirst, AtSecond}
 use Rattle.output_files.proofs.Parts.{left_since}
 use Rattle.holdings_export.specs.Output.{holdings_export, holdings_rest}
-use Rattle.holdings_command.specs.Attaching.{rest_unwritten, IsAttached}
+use Rattle.holdings_command.specs.Attaching.{rest_unwritten}
 use Rattle.holdings_command.specs.Ready.{IsReady}
 use Rattle.holdings_command.specs.Shelving.{IsFaultOfShelving}
 use Rattle.holdings_command.specs.declared.ready.Ready.{Ready}
 use Rattle.holdings_command.proofs.Delivering.{Delivers, attached_of_any, delivers_stopped, delivers_told}
 use Rattle.holdings_command.proofs.OnShelves.{there_more}
+use Rattle.holdings_command.proofs.Unread.{unread_is}
 use Rattle.unheld_journals.specs.Untaken.{WhyUntaken, fault_of_look, fault_of_reading}
 use Rattle.reading_commands.specs.Unheld.{EndsUnheld, AttachesUnheld}
 use Rattle.reading_commands.proofs.Endings.{same_bytes, untaken_not_input}
@@ -51,24 +53,11 @@ ends_untaken opening.NoMemory current = tt
 
 -- so is a fault of reading the file, which has no reason in the journal
 ends_unread : (why : Fault) → IsFaultOfShelving why → EndsUnheld (Told why)
-ends_unread Input is = tt
-ends_unread Memory is = tt
-ends_unread Usage is = absurd is
-ends_unread Device is = absurd is
-ends_unread (NotAJournal place) is = absurd is
-ends_unread Full is = absurd is
-ends_unread OldVersion is = absurd is
-ends_unread OtherHistory is = absurd is
+ends_unread why is = unread_is (λ w. EndsUnheld (Told w)) tt tt why is
 
 no_reason : {P : Type 0} (why : Fault) → IsFaultOfShelving why → why ≢ Input → why ≢ Memory → P
-no_reason Input is no_input no_memory = absurd (no_input refl)
-no_reason Memory is no_input no_memory = absurd (no_memory refl)
-no_reason Usage is no_input no_memory = absurd is
-no_reason Device is no_input no_memory = absurd is
-no_reason (NotAJournal place) is no_input no_memory = absurd is
-no_reason Full is no_input no_memory = absurd is
-no_reason OldVersion is no_input no_memory = absurd is
-no_reason OtherHistory is no_input no_memory = absurd is
+no_reason {P} why is =
+    unread_is (λ w. w ≢ Input → w ≢ Memory → P) (λ no_input no_memory. absurd (no_input refl)) (λ no_input no_memory. absurd (no_memory refl)) why is
 
 ends_delivered : (end : End) → TellsNoFault end → end ≢ pages_unwritten → EndsUnheld end
 ends_delivered Done untold no_pages = tt
@@ -100,14 +89,14 @@ module _ (journal out rest : List ℕ) (library : Library) (code : Option (List 
   -- a fault was told, and nothing was begun
   unheld_told : (why : Fault) → o.end ≡ Told why → IsTold why o → EndsUnheld (Told why) → SameBut o.old o.new []
       → (why ≡ Input → Rose (o.old.in_faults journal) (o.new.in_faults journal) ⊎ Rose (o.old.in_faults library.file) (o.new.in_faults library.file))
-      → (why ≢ Input → why ≢ Memory → o.old.tells ≡ true → IsSomeAnd (o.old.file journal) (λ bytes. WhyUntaken bytes why))
+      → (why ≢ Input → why ≢ Memory → o.old.tells ≡ true → IsSomeAnd (o.old.file journal) (λ bytes. WhyUntaken (journal_limits o.old) bytes why))
       → AttachesUnheld journal out rest library code o
   unheld_told why is told ends stays input so = record {
     ends = subst EndsUnheld (sym is) ends;
     told = λ other also. subst (λ w. IsTold w o × SameBut o.old o.new []) (told_once o.end why other is also) (told, stays);
     so = λ other also no_input no_memory tells.
         let same = told_once o.end why other is also in
-        subst (λ w. IsSomeAnd (o.old.file journal) (λ bytes. WhyUntaken bytes w)) same
+        subst (λ w. IsSomeAnd (o.old.file journal) (λ bytes. WhyUntaken (journal_limits o.old) bytes w)) same
         (so (λ e. no_input (sym same ∙ e)) (λ e. no_memory (sym same ∙ e)) tells);
     no_rest = λ also. absurd (told_not_unwritten o.end why Out is also);
     silent = λ either. absurd (not_stopped either);
@@ -134,14 +123,14 @@ module _ (journal out rest : List ℕ) (library : Library) (code : Option (List 
       by read.NoMemory is told rose = unheld_told Memory is told tt stays (λ same. cc) (λ other more. absurd (more refl))
 
   -- its bytes are not taken
-  pub unheld_untaken : (bytes : List ℕ) (reason : OpenFault) (fault : Fault) → fault ≡ fault_of_look reason → o.end ≡ Told fault → IsTold fault o
-      → reason ≢ opening.OldVersion → SameBut o.old o.new [] → (o.old.tells ≡ true → o.old.file journal ≡ Some bytes)
-      → IsUnopened journal_limits bytes reason → AttachesUnheld journal out rest library code o
-  unheld_untaken bytes reason fault words is told current stays there unopened =
+  pub unheld_untaken : (limits : Limits) (bytes : List ℕ) (reason : OpenFault) (fault : Fault) → fault ≡ fault_of_look reason → o.end ≡ Told fault
+      → IsTold fault o → reason ≢ opening.OldVersion → SameBut o.old o.new [] → (o.old.tells ≡ true → o.old.file journal ≡ Some bytes)
+      → IsUnopened limits bytes reason → limits ≡ journal_limits o.old → AttachesUnheld journal out rest library code o
+  unheld_untaken limits bytes reason fault words is told current stays there unopened same_limits =
       unheld_told (fault_of_look reason) (subst (λ f. o.end ≡ Told f) words is) (subst (λ f. IsTold f o) words told) (ends_untaken reason current)
       stays (λ same. absurd (untaken_not_input reason same))
-      (λ other more tells. subst (λ file. IsSomeAnd file (λ bytes. WhyUntaken bytes (fault_of_look reason))) (sym (there tells))
-      (record { reason = reason; is = refl; so = unopened }))
+      (λ other more tells. subst (λ file. IsSomeAnd file (λ bytes. WhyUntaken (journal_limits o.old) bytes (fault_of_look reason))) (sym (there tells))
+      (record { reason = reason; is = refl; so = subst (λ l. IsUnopened l bytes reason) same_limits unopened }))
 
   -- the file of holdings could not be read, or memory ran out over it
   pub unheld_unready : (why : Fault) → IsFaultOfShelving why → o.end ≡ Told why → IsTold why o → SameBut o.old o.new []
@@ -150,7 +139,7 @@ module _ (journal out rest : List ℕ) (library : Library) (code : Option (List 
       unheld_told why is told (ends_unread why kind) stays (λ same. inr (rose same)) (λ other more tells. no_reason why kind other more)
 
   module _ (bytes : List ℕ) (history : List Entry) (there : o.old.tells ≡ true → o.old.file journal ≡ Some bytes) (has : HasHistory history bytes)
-      (within : IsWithin journal_limits history) where
+      (within : IsWithin (journal_limits o.old) history) where
     -- any history of the file is one of the bytes that were read
     had : (others : List ℕ) (entries : List Entry) → o.old.tells ≡ true → o.old.file journal ≡ Some others → HasHistory entries others → HasHistory entries bytes
     had others entries tells at was = subst (HasHistory entries) (sym (same_bytes bytes others (sym (there tells) ∙ at))) was
@@ -167,7 +156,7 @@ module _ (journal out rest : List ℕ) (library : Library) (code : Option (List 
       out_cause = d.out_cause;
       rest_cause = d.rest_cause;
       console_cause = d.console_cause;
-      history = λ untold tells. subst (λ file. IsSomeAnd file HasFittingHistory) (sym (there tells)) (fitting_history history bytes has within);
+      history = λ untold tells. subst (λ file. IsSomeAnd file (HasFittingHistory o.old)) (sym (there tells)) (fitting_history o.old history bytes has within);
       delivers = λ others entries untold tells at was. there_more (o.old.file library.file)
           (λ file is. attached_of_any library code file out rest o entries history bytes (had others entries tells at was) has is) (d.attached tells);
     }

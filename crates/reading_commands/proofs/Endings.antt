@@ -2,6 +2,7 @@
 use Rattle.std.proofs.Common.{◌≡◌, ◌≢◌, ◌∙◌, ℕ, true, List, [], Some, Result, Ok, Err, OnOk, refl, sym, subst}
 use Rattle.std.specs.Prelude.{IsSomeAnd}
 use Rattle.marc_types.specs.declared.entry.Entry.{Entry}
+use Rattle.marc_types.specs.declared.entry.Limits.{Limits}
 use Rattle.outside.specs.Fault.{Rose}
 use Rattle.outside.specs.declared.fault.WriteFault.{WriteFault}
 use Rattle.outside.specs.declared.fault.WriteFault.TheVariants.{OutputFault, NoMemory}
@@ -50,14 +51,14 @@ module _ (journal out : List ℕ) (due : List Entry → List ℕ) (o : Outcome) 
   -- a fault was told, and nothing was begun
   looks_told : (why : Fault) → o.end ≡ Told why → IsTold why o → EndsLooking (Told why) → SameBut o.old o.new []
       → (why ≡ Input → Rose (o.old.in_faults journal) (o.new.in_faults journal))
-      → (why ≢ Input → why ≢ Memory → o.old.tells ≡ true → IsSomeAnd (o.old.file journal) (λ bytes. WhyUntaken bytes why)) → LooksInto journal out due o
+      → (why ≢ Input → why ≢ Memory → o.old.tells ≡ true → IsSomeAnd (o.old.file journal) (λ bytes. WhyUntaken (journal_limits o.old) bytes why)) → LooksInto journal out due o
   looks_told why is told ends stays input so = record {
     ends = subst EndsLooking (sym is) ends;
     told = λ other also. subst (λ w. IsTold w o) (told_once o.end why other is also) told;
     untouched = λ other also. stays;
     so = λ other also no_input no_memory tells.
         let same = told_once o.end why other is also in
-        subst (λ w. IsSomeAnd (o.old.file journal) (λ bytes. WhyUntaken bytes w)) same
+        subst (λ w. IsSomeAnd (o.old.file journal) (λ bytes. WhyUntaken (journal_limits o.old) bytes w)) same
         (so (λ e. no_input (sym same ∙ e)) (λ e. no_memory (sym same ∙ e)) tells);
     silent = λ untold. absurd (never_told o.end why untold is);
     input = λ also. input (told_once o.end why Input is also);
@@ -78,26 +79,28 @@ module _ (journal out : List ℕ) (due : List Entry → List ℕ) (o : Outcome) 
       by read.NoMemory is told rose = looks_told Memory is told tt stays (λ same. cc) (λ other more. absurd (more refl))
 
   -- its bytes are not taken
-  pub looks_untaken : (mid : RoomView) (bytes : List ℕ) (reason : OpenFault) (fault : Fault) → fault ≡ fault_of_look reason → o.end ≡ Told fault → IsTold fault o
-      → reason ≢ opening.OldVersion → SameBut o.old mid [] → SameBut mid o.new [] → (o.old.tells ≡ true → o.old.file journal ≡ Some bytes)
-      → IsUnopened journal_limits bytes reason → LooksInto journal out due o
-  looks_untaken mid bytes reason fault words is told current first second there unopened =
+  pub looks_untaken : (limits : Limits) (mid : RoomView) (bytes : List ℕ) (reason : OpenFault) (fault : Fault) → fault ≡ fault_of_look reason
+      → o.end ≡ Told fault → IsTold fault o → reason ≢ opening.OldVersion → SameBut o.old mid [] → SameBut mid o.new []
+      → (o.old.tells ≡ true → o.old.file journal ≡ Some bytes) → IsUnopened limits bytes reason → limits ≡ journal_limits o.old → LooksInto journal out due o
+  looks_untaken limits mid bytes reason fault words is told current first second there unopened same_limits =
       looks_told (fault_of_look reason) (subst (λ f. o.end ≡ Told f) words is) (subst (λ f. IsTold f o) words told) (ends_untaken reason current)
       (same_but_then o.old mid o.new [] first second) (λ same. absurd (untaken_not_input reason same))
-      (λ other more tells. subst (λ file. IsSomeAnd file (λ bytes. WhyUntaken bytes (fault_of_look reason))) (sym (there tells))
-      (record { reason = reason; is = refl; so = unopened }))
+      (λ other more tells. subst (λ file. IsSomeAnd file (λ bytes. WhyUntaken (journal_limits o.old) bytes (fault_of_look reason))) (sym (there tells))
+      (record { reason = reason; is = refl; so = subst (λ l. IsUnopened l bytes reason) same_limits unopened }))
 
-  module _ (mid : RoomView) (bytes : List ℕ) (stays : SameBut o.old mid []) (there : o.old.tells ≡ true → o.old.file journal ≡ Some bytes) where
-    fits : (entries : List Entry) → HasHistory entries bytes → IsWithin journal_limits entries → o.old.tells ≡ true → IsSomeAnd (o.old.file journal) HasFittingHistory
+  module _ (limits : Limits) (mid : RoomView) (bytes : List ℕ) (same_limits : limits ≡ journal_limits o.old) (stays : SameBut o.old mid [])
+      (there : o.old.tells ≡ true → o.old.file journal ≡ Some bytes) where
+    fits : (entries : List Entry) → HasHistory entries bytes → IsWithin limits entries → o.old.tells ≡ true → IsSomeAnd (o.old.file journal) (HasFittingHistory o.old)
     fits entries has within tells =
-        subst (λ file. IsSomeAnd file HasFittingHistory) (sym (there tells)) (fitting_history entries bytes has within)
+        subst (λ file. IsSomeAnd file (HasFittingHistory o.old)) (sym (there tells))
+        (fitting_history o.old entries bytes has (subst (λ l. IsWithin l entries) same_limits within))
 
     -- any history of the file is one of the bytes that were read
     had : (others : List ℕ) (entries : List Entry) → o.old.tells ≡ true → o.old.file journal ≡ Some others → HasHistory entries others → HasHistory entries bytes
     had others entries tells at has = subst (HasHistory entries) (sym (same_bytes bytes others (sym (there tells) ∙ at))) has
 
     -- the output was written, or it could not be, or memory ran out before it was begun
-    pub looks_output : {T : Type 0} → (written : Result T WriteFault) → IsLooked bytes out due mid o.new written → OnOk written (o.end ≡ Done)
+    pub looks_output : {T : Type 0} → (written : Result T WriteFault) → IsLooked limits bytes out due mid o.new written → OnOk written (o.end ≡ Done)
         → (written ≡ Err OutputFault → o.end ≡ out_unwritten) → (written ≡ Err NoMemory → o.end ≡ Told Memory) → (written ≡ Err NoMemory → IsTold Memory o)
         → ((written ≡ Err NoMemory → ⊥) → IsSilent o) → LooksInto journal out due o
     looks_output (Ok value) l done failed memory told silent = record {

@@ -13,7 +13,7 @@ use Rattle.console_lines.specs.declared.end.End.TheVariants.{Done, Refused, Unwr
 use Rattle.console_lines.specs.declared.end.Unwritten.TheVariants.{Out, Side, Pages, Console}
 use Rattle.console_lines.specs.declared.fault.Fault.{Fault}
 use Rattle.console_lines.specs.declared.fault.Fault.TheVariants.{Usage, Input, Device, NotAJournal, Full, Memory, OldVersion, OtherHistory}
-use Rattle.journal_files.specs.Journals.{HasFittingHistory}
+use Rattle.journal_files.specs.Journals.{journal_limits, HasFittingHistory}
 use Rattle.holdings_command.specs.Attaching.{rest_unwritten, IsAttached}
 use Rattle.unheld_journals.specs.Untaken.{WhyUntaken}
 
@@ -41,7 +41,7 @@ pub record AttachesUnheld (journal out rest : List ℕ) (library : Library) (cod
   -- a fault is told, and leaves the room as it was
   pub told : (why : Fault) → o.end ≡ Told why → IsTold why o × SameBut o.old o.new []
   -- another than of an input is told for its reason
-  pub so : (why : Fault) → o.end ≡ Told why → why ≢ Input → why ≢ Memory → o.old.tells ≡ true → IsSomeAnd (o.old.file journal) (λ bytes. WhyUntaken bytes why)
+  pub so : (why : Fault) → o.end ≡ Told why → why ≢ Input → why ≢ Memory → o.old.tells ≡ true → IsSomeAnd (o.old.file journal) (λ bytes. WhyUntaken (journal_limits o.old) bytes why)
   -- where OUT could not be written nothing but it has changed
   pub no_rest : o.end ≡ out_unwritten → SameBut o.old o.new (out ∷ [])
   -- where an output could not be written the console is as it was
@@ -51,7 +51,7 @@ pub record AttachesUnheld (journal out rest : List ℕ) (library : Library) (cod
   pub out_cause : o.end ≡ out_unwritten → Rose (o.old.out_faults out) (o.new.out_faults out)
   pub rest_cause : o.end ≡ rest_unwritten → Rose (o.old.out_faults rest) (o.new.out_faults rest)
   pub console_cause : o.end ≡ console_unwritten → Rose o.faults o.faults_now
-  -- without a fault to tell both files were there, the journal with a history within the limits, and what is due of both was delivered
-  pub history : TellsNoFault o.end → o.old.tells ≡ true → IsSomeAnd (o.old.file journal) HasFittingHistory
+  -- without a fault to tell both files were there, the journal with a history within the room's limits, and what is due of both was delivered
+  pub history : TellsNoFault o.end → o.old.tells ≡ true → IsSomeAnd (o.old.file journal) (HasFittingHistory o.old)
   pub delivers : (bytes : List ℕ) (entries : List Entry) → TellsNoFault o.end → o.old.tells ≡ true → o.old.file journal ≡ Some bytes → HasHistory entries bytes
       → IsSomeAnd (o.old.file library.file) (λ file. IsAttached library code file (state_of entries) out rest o)

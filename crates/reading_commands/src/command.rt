@@ -1,12 +1,12 @@
 ghost use Rattle.std.specs.Prelude.{◌≡◌, ℕ, List, [], ◌∷◌, None};
-ghost use Rattle.command_words.specs.Asked.{look_asked};
 ghost use Rattle.console_lines.specs.Ends.{outcome};
 ghost use Rattle.outside.specs.Room.{SameBut};
-ghost use Rattle.reading_commands.specs.Looking.{LooksInto, look_due};
+ghost use Rattle.reading_commands.specs.Looking.{Looks};
 
 use crate::writing::write_look;
 use command_words::Look;
 use console_lines::{End, end_of_output, tell};
+use journal_files::limits_of;
 use memory_files::read_file;
 use outside::Room;
 use std::alloc::Global;
@@ -25,14 +25,15 @@ pub fn look_into<R: Room>(
     requires closed { (name : List ℕ) → (R.seen room.old).open_as name ≡ None }
     ensures closed { (name : List ℕ) → (R.seen room.new).open_as name ≡ None }
     ensures apart { SameBut (R.seen room.old) (R.seen room.new) (out.now ∷ []) }
-    ensures ends { LooksInto journal.now out.now (look_due (look_asked look.entry))
+    ensures ends { Looks journal.now out.now look.entry
         (outcome R.seen R.Out.written R.Out.faults room.old room.new console.old console.new result) }
 {
+    let limits = limits_of(room);
     let bytes = match read_file(alloc, room, journal) {
         Ok(bytes) => bytes,
         Err(fault) => return tell(console, fault_of_reading(fault)),
     };
-    match write_look(alloc, room, out, bytes, look) {
+    match write_look(alloc, limits, room, out, bytes, look) {
         Ok(written) => end_of_output(console, written),
         Err(fault) => tell(console, fault_of_look(fault)),
     }

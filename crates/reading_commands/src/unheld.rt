@@ -8,7 +8,8 @@ ghost use Rattle.reading_commands.specs.Unheld.{AttachesUnheld};
 use command_words::Library;
 use console_lines::{End, end_of_outputs, tell};
 use durable_catalogue::OnClose;
-use holdings_command::{Ready, prepare, write_both};
+use holdings_command::{prepare, write_both};
+use journal_files::limits_of;
 use memory_files::read_file;
 use outside::Room;
 use std::alloc::Global;
@@ -34,27 +35,24 @@ pub fn attach_unheld<R: Room>(
     ensures ends { AttachesUnheld journal.now out.now rest.now library.now (option_copied code.entry)
         (outcome R.seen R.Out.written R.Out.faults room.old room.new console.old console.new result) }
 {
+    let limits = limits_of(room);
     let bytes = match read_file(alloc, room, journal) {
         Ok(bytes) => bytes,
         Err(fault) => return tell(console, fault_of_reading(fault)),
     };
-    let archive = match catalogue_of(alloc, bytes) {
+    let archive = match catalogue_of(alloc, limits, bytes) {
         Ok(archive) => archive,
         Err(fault) => return tell(console, fault_of_look(fault)),
     };
     let core = archive.core();
-    let Ready {
-        shelf,
-        text,
-        refused,
-    } = match prepare(alloc, room, library, core) {
+    let ready = match prepare(alloc, room, library, core) {
         Ok(ready) => ready,
         Err(fault) => {
             let _disk = archive.close(OnClose::Leak);
             return tell(console, fault);
         }
     };
-    let written = write_both(alloc, room, out, rest, core, &shelf, code);
+    let written = write_both(alloc, room, out, rest, core, &ready.shelf, code);
     let _disk = archive.close(OnClose::Leak);
-    end_of_outputs(console, written, text.as_str(), refused)
+    end_of_outputs(console, written, ready.text.as_str(), ready.refused)
 }

@@ -170,7 +170,7 @@ point_behind entries s payloads w first second place log image is = record {
   frames = is;
 }
 
-pub point_or_not : (entries : ℕ) (s : State) (payloads : List (List ℕ)) → IsWritten entries (rows_in_turn s) payloads → IsAscending s.authorities → IsAscending s.bibliographic
+point_or_not : (entries : ℕ) (s : State) (payloads : List (List ℕ)) → IsWritten entries (rows_in_turn s) payloads → IsAscending s.authorities → IsAscending s.bibliographic
     → (place : ℕ) (log image : List ℕ) → HasAllOrNone log place payloads image → HasPointOrNot entries s log image
 point_or_not entries s payloads w first second place log image has = record {
   frames = at has.frames;
@@ -184,6 +184,12 @@ point_or_not entries s payloads w first second place log image has = record {
   at : (frames_of image ≡ frames_of log) ⊎ (frames_of image ≡ and_frames (frames_of log) (frames_from place payloads)) → (frames_of image ≡ frames_of log) ⊎ HasPoint entries s log image
   at (inl same) = inl same
   at (inr more) = inr (point_behind entries s payloads w first second place log image more)
+
+-- what a call leaves that writes all payloads or none, it leaves with the checkpoint or without it
+pub leaves_point : (entries : ℕ) (s : State) (payloads : List (List ℕ)) → IsWritten entries (rows_in_turn s) payloads → IsAscending s.authorities → IsAscending s.bibliographic
+    → (place : ℕ) (old new : DiskView) (log : List ℕ) → LeavesOnly old new (HasAllOrNone log place payloads) → LeavesOnly old new (HasPointOrNot entries s log)
+leaves_point entries s payloads w first second place old new log leaves =
+    leaves_weaker (HasAllOrNone log place payloads) (HasPointOrNot entries s log) old new (λ image. point_or_not entries s payloads w first second place log image) leaves
 
 -- where nothing was written
 pub no_point : (entries : ℕ) (s : State) (log : List ℕ) → HasPointOrNot entries s log log

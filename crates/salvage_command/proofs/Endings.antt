@@ -19,7 +19,7 @@ use Rattle.console_lines.proofs.Ends.{told_once, told_not_done, told_not_unwritt
 use Rattle.journal_files.specs.Faults.{IsDeviceOf}
 use Rattle.journal_files.specs.Journals as journals
 use Rattle.journal_files.specs.Journals.{journal_limits, log_bytes}
-use Rattle.journal_files.proofs.Journals.{keeps_where}
+use Rattle.journal_files.proofs.Journals.{keeps_where, same_limits}
 use Rattle.migrate_command.specs.declared.fault.MigrateFault.{MigrateFault}
 use Rattle.migrate_command.specs.declared.fault.MigrateFault.TheVariants as migrating
 use Rattle.migrate_command.specs.Migrations.{IsFit, IsUnfit, IsUnmigrated, IsBrought}
@@ -97,17 +97,17 @@ module _ (journal into : List ℕ) (o : Outcome) where
         (λ input. let never : Memory ≡ Input = sym memory ∙ input in absurd cc) (λ one other. absurd (other memory))
 
     -- of the bytes nothing was found that can be brought
-    found_ends : (log : List ℕ) → IsUnfound log why → EndsSalvaging (Told why)
+    found_ends : (log : List ℕ) → IsUnfound (journal_limits o.old) log why → EndsSalvaging (Told why)
     found_ends log (NoMemory memory) = subst (λ w. EndsSalvaging (Told w)) (sym memory) tt
     found_ends log (Found_nothing all place of none nothing) = subst (λ w. EndsSalvaging (Told w)) (sym none) tt
     found_ends log (Found_much all of full much) = subst (λ w. EndsSalvaging (Told w)) (sym full) tt
 
-    found_so : (log : List ℕ) → IsUnfound log why → why ≢ Memory → (all : SoundPart) × IsSoundOf log all × WhyNot o.old o.new all into why
+    found_so : (log : List ℕ) → IsUnfound (journal_limits o.old) log why → why ≢ Memory → (all : SoundPart) × IsSoundOf log all × WhyNot o.old o.new all into why
     found_so log (NoMemory memory) other = absurd (other memory)
     found_so log (Found_nothing all place of none nothing) other = (all, of, Nothing place none nothing stays)
     found_so log (Found_much all of full much) other = (all, of, TooMuch full much stays)
 
-    pub salvages_unfound : (log : List ℕ) → (o.old.tells ≡ true → o.old.file journal ≡ Some log) → IsUnfound log why → why ≢ Device → why ≢ Input
+    pub salvages_unfound : (log : List ℕ) → (o.old.tells ≡ true → o.old.file journal ≡ Some log) → IsUnfound (journal_limits o.old) log why → why ≢ Device → why ≢ Input
         → Salvages journal into o
     salvages_unfound log read unfound no_device no_input =
         salvages_untouched (found_ends log unfound) no_device (λ input. absurd (no_input input))
@@ -116,7 +116,7 @@ module _ (journal into : List ℕ) (o : Outcome) where
 
   -- what was found was brought into the new journal, or not
   module _ (differ : into ≢ journal) (log : List ℕ) (mid : RoomView) (text : List ℕ) (entries : List Entry) (first : SameBut o.old mid []) (second : SameBut mid o.new (into ∷ []))
-      (read : o.old.tells ≡ true → o.old.file journal ≡ Some log) (f : IsFoundSound log entries text)
+      (read : o.old.tells ≡ true → o.old.file journal ≡ Some log) (f : IsFoundSound (journal_limits o.old) log entries text)
       (brings : (was : List ℕ) → mid.tells ≡ true → HasHistory entries was → BringsInto entries mid o.new into) where
     abbrev was : List ℕ
     was = (sound_framed log f.all f.is).log
@@ -138,6 +138,9 @@ module _ (journal into : List ℕ) (o : Outcome) where
     same_bytes : log_bytes mid into ≡ log_bytes o.old into
     same_bytes = ap bytes_or_none (first.files into tt)
 
+    same_most : journal_limits mid ≡ journal_limits o.old
+    same_most = same_limits o.old mid [] first
+
     -- what is sound of the bytes is what was found
     same_log : (other : List ℕ) (all : SoundPart) → IsSalvageOf o.old journal other all → other ≡ log
     same_log other all of = let both : Some other ≡ Some log = sym of.1 ∙ read of.0 in cc
@@ -153,10 +156,11 @@ module _ (journal into : List ℕ) (o : Outcome) where
         ∣ subst (λ es. BringsInto es o.old o.new into) (same_entries other all of)
         (brings_across entries o.old mid o.new o.new journal into differ before behind (brings was (first.tells ∙ of.0) has)) ∣₁
 
-    unfit_found : (other : List ℕ) (all : SoundPart) → IsSalvageOf o.old journal other all → IsUnfit journal_limits all.entries (log_bytes o.old into)
-        → IsUnfit journal_limits entries (log_bytes mid into)
+    unfit_found : (other : List ℕ) (all : SoundPart) → IsSalvageOf o.old journal other all → IsUnfit (journal_limits o.old) all.entries (log_bytes o.old into)
+        → IsUnfit (journal_limits mid) entries (log_bytes mid into)
     unfit_found other all of unfit =
-        subst (IsUnfit journal_limits entries) (sym same_bytes) (subst (λ es. IsUnfit journal_limits es (log_bytes o.old into)) (sym (same_entries other all of)) unfit)
+        subst (λ limits. IsUnfit limits entries (log_bytes mid into)) (sym same_most)
+        (subst (IsUnfit (journal_limits o.old) entries) (sym same_bytes) (subst (λ es. IsUnfit (journal_limits o.old) es (log_bytes o.old into)) (sym (same_entries other all of)) unfit))
 
     in_file : (P : List ℕ → Type 0) → o.old.tells ≡ true → P log → IsSomeAnd (o.old.file journal) P
     in_file P tells so = subst (λ x. IsSomeAnd x P) (sym (read tells)) so
@@ -167,10 +171,11 @@ module _ (journal into : List ℕ) (o : Outcome) where
           let fit = b.fit (first.tells ∙ tells) in record {
             worth = f.worth;
             before = fit.0;
-            fit = subst (λ es. IsFit journal_limits es fit.0 (log_bytes o.old into)) f.entries_are (subst (IsFit journal_limits entries fit.0) same_bytes fit.1);
+            fit = subst (λ limits. IsFit limits f.all.entries fit.0 (log_bytes o.old into)) same_most
+                (subst (λ es. IsFit (journal_limits mid) es fit.0 (log_bytes o.old into)) f.entries_are (subst (IsFit (journal_limits mid) entries fit.0) same_bytes fit.1));
           }
 
-      alone_not : (other : List ℕ) (all : SoundPart) → IsSalvageOf o.old journal other all → IsUnfit journal_limits all.entries (log_bytes o.old into) → ⊥
+      alone_not : (other : List ℕ) (all : SoundPart) → IsSalvageOf o.old journal other all → IsUnfit (journal_limits o.old) all.entries (log_bytes o.old into) → ⊥
       alone_not other all of unfit = let fit = b.fit (first.tells ∙ of.0) in unfit_found other all of unfit fit.0 fit.1
 
       all_brought : (other : List ℕ) (all : SoundPart) → IsSalvageOf o.old journal other all → IsBrought all.entries (log_bytes o.new into)
@@ -241,8 +246,9 @@ module _ (journal into : List ℕ) (o : Outcome) where
           (in_file (λ l. (all : SoundPart) × IsSoundOf l all × WhyNot o.old o.new all into why) tells (
             f.all,
             f.is,
-            NotTaken t.reason t.is f.worth (subst (λ es. IsUnmigrated journal_limits es (log_bytes o.old into) t.reason) f.entries_are
-                (subst (λ l. IsUnmigrated journal_limits entries l t.reason) same_bytes (t.so (first.tells ∙ tells)))),
+            NotTaken t.reason t.is f.worth (subst (λ limits. IsUnmigrated limits f.all.entries (log_bytes o.old into) t.reason) same_most
+                (subst (λ es. IsUnmigrated (journal_limits mid) es (log_bytes o.old into) t.reason) f.entries_are
+                (subst (λ l. IsUnmigrated (journal_limits mid) entries l t.reason) same_bytes (t.so (first.tells ∙ tells))))),
           ));
       input = λ also. absurd (no_input t.reason (sym t.is ∙ told_once o.end why Input is also));
       device = λ also. risen (told_once o.end why Device is also);

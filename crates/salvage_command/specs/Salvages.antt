@@ -43,15 +43,15 @@ EndsSalvaging (Told OtherHistory) = Unit {0}
 -- to be written; or the log doesn't take it.
 pub data WhyNot (old new : RoomView) (all : SoundPart) (into : List ℕ) (why : Fault) : Type 0 where
   Nothing : (place : ℕ) → why ≡ NotAJournal place → IsNothing all place → SameBut old new [] → WhyNot old new all into why
-  TooMuch : why ≡ Full → (IsWithin journal_limits all.entries → ⊥) → SameBut old new [] → WhyNot old new all into why
-  NotTaken : (reason : MigrateFault) → why ≡ fault_of_migrating reason → IsWorth all
-      → IsUnmigrated journal_limits all.entries (log_bytes old into) reason → WhyNot old new all into why
+  TooMuch : why ≡ Full → (IsWithin (journal_limits old) all.entries → ⊥) → SameBut old new [] → WhyNot old new all into why
+  NotTaken : (reason : MigrateFault) → why ≡ fault_of_migrating reason → IsWorth (journal_limits old) all
+      → IsUnmigrated (journal_limits old) all.entries (log_bytes old into) reason → WhyNot old new all into why
 
 -- something is sound, within the limits, and the log of that name was fit for it
 pub record WasFit (room : RoomView) (all : SoundPart) (into : List ℕ) : Type 0 where
-  pub worth : IsWorth all
+  pub worth : IsWorth (journal_limits room) all
   pub before : List Entry
-  pub fit : IsFit journal_limits all.entries before (log_bytes room into)
+  pub fit : IsFit (journal_limits room) all.entries before (log_bytes room into)
 
 -- The bytes of the file of that name are told, and this is what is sound of them.
 abbrev pub IsSalvageOf : RoomView → List ℕ → List ℕ → SoundPart → Type 0
@@ -64,7 +64,7 @@ pub record Salvages (journal into : List ℕ) (o : Outcome) : Type 0 where
   pub only : SameBut o.old o.new (into ∷ [])
   -- the new one gets a front of the sound entries, whatever the end is, and one that is not fit for them is left alone
   pub brings : (log : List ℕ) (all : SoundPart) → IsSalvageOf o.old journal log all → ∥ BringsInto all.entries o.old o.new into ∥₁
-  pub alone : (log : List ℕ) (all : SoundPart) → IsSalvageOf o.old journal log all → IsUnfit journal_limits all.entries (log_bytes o.old into)
+  pub alone : (log : List ℕ) (all : SoundPart) → IsSalvageOf o.old journal log all → IsUnfit (journal_limits o.old) all.entries (log_bytes o.old into)
       → KeepsHistory (IsDeviceOf o into) o.old o.new into
   -- unless a device failed, a new one that doesn't get them is as it was, byte for byte, and a crash leaves the same of it
   pub kept : (why : Fault) → o.end ≡ Told why → why ≢ Device → o.old.tells ≡ true → log_bytes o.new into ≡ log_bytes o.old into

@@ -5,6 +5,7 @@ ghost use Rattle.salvage_command.specs.Salvages.{Salvages};
 
 use crate::looking::look_over;
 use console_lines::{End, tell, tell_result};
+use journal_files::limits_of;
 use memory_files::read_file;
 use migrate_command::bring_history;
 use outside::Room;
@@ -27,11 +28,12 @@ pub fn salvage_journal<R: Room>(
     ensures ends { Salvages journal.now into.now
         (outcome R.seen R.Out.written R.Out.faults room.old room.new console.old console.new result) }
 {
+    let limits = limits_of(room);
     let log = match read_file(alloc, room, journal) {
         Ok(log) => log,
         Err(fault) => return tell(console, fault_of_reading(fault)),
     };
-    let found = match look_over(alloc, log) {
+    let found = match look_over(alloc, limits, log) {
         Ok(found) => found,
         Err(fault) => return tell(console, fault),
     };

@@ -7,7 +7,7 @@ ghost use Rattle.salvage_command.specs.Finding.{IsFoundSound, IsUnfound};
 use crate::text::salvaged_text;
 use console_lines::Fault;
 use entry_history::EntryPayload;
-use journal_files::JOURNAL_LIMITS;
+use marc_types::Limits;
 use sound_frames::{Damage, Reason, find_sound};
 use std::alloc::Global;
 
@@ -45,13 +45,13 @@ fn count_behind(log: &[u8], end: u64) -> u64
 }
 
 /// What is sound of a journal's bytes, where something is, within the limits; and what is to be told of it.
-pub(crate) fn look_over(alloc: Global, log: Vec<u8>) -> Result<Findings, Fault>
-    ensures found { IfOk result (λ found. IsFoundSound log.items found.entries.items (string_bytes found.text)) }
-    ensures unfound { IfErr result (IsUnfound log.items) }
+pub(crate) fn look_over(alloc: Global, limits: Limits, log: Vec<u8>) -> Result<Findings, Fault>
+    ensures found { IfOk result (λ found. IsFoundSound limits log.items found.entries.items (string_bytes found.text)) }
+    ensures unfound { IfErr result (IsUnfound limits log.items) }
     ensures no_device { IfErr result (λ fault. fault ≢ Device) }
     ensures no_input { IfErr result (λ fault. fault ≢ Input) }
 {
-    let Ok(sound) = find_sound(alloc, log.as_slice(), JOURNAL_LIMITS) else {
+    let Ok(sound) = find_sound(alloc, log.as_slice(), limits) else {
         return Err(Fault::Memory);
     };
     let entries = sound.entries;

@@ -2,7 +2,6 @@ pub mod Framed
 pub mod Frames
 pub mod Headers
 pub mod Once
-pub mod Sizes
 pub mod Steps
 pub mod Versions
 pub mod Walks

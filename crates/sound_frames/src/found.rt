@@ -21,7 +21,7 @@ pub(crate) struct Found {
 }
 
 /// What an entry leaves of so many bytes.
-#[tactic(auto, using(crate::proofs::Sizes::left_more, crate::proofs::Sizes::left_passed, crate::proofs::Sizes::passed_more))]
+#[tactic(auto, using(entry_record::proofs::Sizes::left_more, entry_record::proofs::Sizes::left_passed, entry_record::proofs::Sizes::passed_more))]
 fn left_behind(left: Option<u64>, item: &Prepared) -> Option<u64>
     ensures { (bytes : ℕ) (before : List AnyEntry) → HasLeft bytes before left → HasLeft bytes (before ++ item.now ∷ []) result }
 {
@@ -85,7 +85,7 @@ impl Found {
     }
 
     /// Whether the entries are within limits.
-    #[tactic(auto, using(crate::proofs::Sizes::within_both, crate::proofs::Sizes::within_few, crate::proofs::Sizes::within_short))]
+    #[tactic(auto, using(entry_record::proofs::Sizes::within_both, entry_record::proofs::Sizes::within_few, entry_record::proofs::Sizes::within_short))]
     pub(crate) fn is_within(&self, limits: Limits) -> bool
         ensures { HasLeft limits.bytes self.now.entries.items self.now.left → IsTrue result ↔ IsWithin limits self.now.entries.items }
     {

@@ -1,5 +1,6 @@
 -- Why the bytes of a journal that isn't held aren't had, or aren't taken. The rules are this project's own.
 use Rattle.std.specs.Prelude.{◌≡◌, ℕ, List}
+use Rattle.marc_types.specs.declared.entry.Limits.{Limits}
 use Rattle.durable_catalogue.specs.Openings.{IsUnopened}
 use Rattle.durable_catalogue.specs.declared.fault.OpenFault.{OpenFault}
 use Rattle.durable_catalogue.specs.declared.fault.OpenFault.TheVariants as opening
@@ -7,7 +8,6 @@ use Rattle.console_lines.specs.declared.fault.Fault.{Fault}
 use Rattle.console_lines.specs.declared.fault.Fault.TheVariants.{Input, NotAJournal, Full, Memory, OldVersion}
 use Rattle.memory_files.specs.declared.reading.ReadFault.{ReadFault}
 use Rattle.memory_files.specs.declared.reading.ReadFault.TheVariants as read
-use Rattle.journal_files.specs.Journals.{journal_limits}
 
 -- why a journal's bytes aren't had, as the console tells it
 abbrev pub fault_of_reading : ReadFault → Fault
@@ -22,8 +22,8 @@ fault_of_look opening.OldVersion = OldVersion
 fault_of_look opening.Full = Full
 fault_of_look opening.NoMemory = Memory
 
--- the fault is why these bytes were not taken, and they are so
-pub record WhyUntaken (bytes : List ℕ) (fault : Fault) : Type 0 where
+-- the fault is why these bytes were not taken within these limits, and they are so
+pub record WhyUntaken (limits : Limits) (bytes : List ℕ) (fault : Fault) : Type 0 where
   pub reason : OpenFault
   pub is : fault ≡ fault_of_look reason
-  pub so : IsUnopened journal_limits bytes reason
+  pub so : IsUnopened limits bytes reason

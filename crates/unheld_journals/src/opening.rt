@@ -4,25 +4,28 @@ ghost use Rattle.durable_catalogue.specs.declared.fault.OpenFault.TheVariants.{O
 ghost use Rattle.durable_catalogue.specs.Logs.{HasHistory};
 ghost use Rattle.durable_catalogue.specs.Openings.{IsUnopened};
 ghost use Rattle.entry_record.specs.History.{IsWithin};
-ghost use Rattle.journal_files.specs.Journals.{journal_limits};
 
 use durable_catalogue::{OpenFault, RecoveredReadOnly};
-use journal_files::JOURNAL_LIMITS;
+use marc_types::Limits;
 use memory_files::ByteDisk;
 use std::alloc::Global;
 
-/// The catalogue of a journal's bytes, of either version. A fault tells why they aren't a journal's, that their history passes the limits,
+/// The catalogue of a journal's bytes, of either version. A fault tells why they aren't a journal's, that their history passes these limits,
 /// or want of memory.
-pub fn catalogue_of(alloc: Global, bytes: Vec<u8>) -> Result<RecoveredReadOnly<ByteDisk>, OpenFault>
+pub fn catalogue_of(
+    alloc: Global,
+    limits: Limits,
+    bytes: Vec<u8>,
+) -> Result<RecoveredReadOnly<ByteDisk>, OpenFault>
     ensures history { IfOk result (λ archive. HasHistory archive.core.history bytes.items) }
-    ensures within { IfOk result (λ archive. IsWithin journal_limits archive.core.history) }
-    ensures unopened { IfErr result (IsUnopened journal_limits bytes.items) }
+    ensures within { IfOk result (λ archive. IsWithin limits archive.core.history) }
+    ensures unopened { IfErr result (IsUnopened limits bytes.items) }
     ensures current { IfErr result (λ fault. fault ≢ OldVersion) }
 {
     let Some(disk) = ByteDisk::new(alloc, bytes) else {
         return Err(OpenFault::NoMemory);
     };
-    match RecoveredReadOnly::open(alloc, disk, JOURNAL_LIMITS) {
+    match RecoveredReadOnly::open(alloc, disk, limits) {
         Ok(archive) => Ok(archive),
         Err((_disk, fault)) => Err(fault),
     }

@@ -10,7 +10,7 @@ mod refused;
 use crate::heard::tell_heard;
 use crate::intent::intent_of;
 use crate::loaded::tell_loaded;
-use command_words::{Request, Unasked, Words, request};
+use command_words::{Request, Unasked, Words, is_large, request};
 use marc_types::Text;
 use outside_real::{FileRoom, FileSink, Heard, LineNotes, OpenGate, Target};
 use program_help::slip_in;
@@ -33,6 +33,9 @@ const USAGE: u8 = 2;
 
 /// The exit status where an output or the console couldn't be written.
 const UNWRITTEN: u8 = 4;
+
+/// The exit status where there is more than a catalogue takes.
+const FULL: u8 = 7;
 
 fn main(rt: HostRuntime) -> ExitCode {
     match command(&rt, &rt) {
@@ -69,8 +72,8 @@ fn is_run(asked: &Result<Request<'_>, Unasked>) -> bool {
     }
 }
 
-/// Tells on standard error what the console's bytes don't: which word is wrong, and that what `run` loaded is there. A line that can't be
-/// written is passed over.
+/// Tells on standard error what the console's bytes don't: which word is wrong, that what `run` loaded is there, and that `large` takes
+/// more. A line that can't be written is passed over.
 fn tell_more(rt: &HostRuntime, words: &Words, writes_behind: bool, status: u8) {
     if status == USAGE {
         if let Ok(slip) = slip_in(rt.alloc(), words.as_slice()) {
@@ -80,6 +83,9 @@ fn tell_more(rt: &HostRuntime, words: &Words, writes_behind: bool, status: u8) {
     if status == UNWRITTEN && writes_behind {
         let _told = eprintln!(rt; "union_cat: the records are in the journal");
     }
+    if status == FULL && !is_large(words) {
+        let _told = eprintln!(rt; "union_cat: a larger catalogue wants `large` before the command");
+    }
 }
 
 /// Carries out the command of the words. `threads` starts the loaders of a command that has any; no other waits for anybody.
@@ -87,7 +93,7 @@ fn command<H: Threads + Wait + Sync>(rt: &HostRuntime, threads: &H) -> io::Resul
     let alloc = rt.alloc();
     let words = words_of(rt)?;
     let (files, told, notes) = (rt.clone()?, rt.clone()?, rt.clone()?);
-    let mut room = FileRoom::new(files, alloc, process::id(rt.process()));
+    let mut room = FileRoom::new(files, alloc, process::id(rt.process()), is_large(&words));
     let asked = request(alloc, &words);
     let writes_behind = is_run(&asked);
     room.intend(intent_of(alloc, &asked, rt.stderr().is_terminal())?);

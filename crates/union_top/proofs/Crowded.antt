@@ -45,7 +45,7 @@ module _ (room : RoomView) (before added : List Entry) (mark : Option (List Entr
     pub split : entries ≡ front ++ ((next ++ more) ++ rest)
     pub committed : brought_by loader added ≡ with_run (next_run before) front
     pub lost : brought_by loader (marked mark) ≡ with_run (next_run before) next
-    pub ends : IsEndOfFile journal_limits (before ++ added) (next_run before) mark r.end (next ++ more) coming
+    pub ends : IsEndOfFile (journal_limits room) (before ++ added) (next_run before) mark r.end (next ++ more) coming
 
   behind : (loader : ℕ) (l : Library) (r : FileResult) (bytes : List ℕ) (entries : List Entry) (refused : List RefusedItem)
       → room.file l.file ≡ Some bytes → IsJudged l.code loader (items bytes) entries refused → IsLibraryLoaded room before added mark l loader r
@@ -105,7 +105,7 @@ module _ (room : RoomView) (before added : List Entry) (mark : Option (List Entr
   -- an entry that passes a limit, and weighs no more together with all that is committed than what is accepted
   pub record Crowded (loader : ℕ) (accepted : List (List Entry)) : Type 0 where
     pub next : Entry
-    pub passes : passes_limits journal_limits (before ++ added) (in_run (next_run before) next) ≡ true
+    pub passes : passes_limits (journal_limits room) (before ++ added) (in_run (next_run before) next) ≡ true
     pub weighs : (w : Entry → ℕ) → IsRunless w → total_from w loader added + w next ≤ totals w accepted
 
   module _ (loader : ℕ) (r : FileResult) (results : List FileResult) (entries : List Entry) (accepted : List (List Entry)) (b : Behind loader r entries)
@@ -113,8 +113,8 @@ module _ (room : RoomView) (before added : List Entry) (mark : Option (List Entr
     first_crowded : r.end ≡ end.Full → Crowded loader (entries ∷ accepted)
     unfolding total totals
     first_crowded full =
-        let full_behind : IsFullBehind journal_limits (before ++ added) (next_run before) (b.next ++ b.more) =
-        subst (λ e. IsEndOfFile journal_limits (before ++ added) (next_run before) mark e (b.next ++ b.more) b.coming) full b.ends in
+        let full_behind : IsFullBehind (journal_limits room) (before ++ added) (next_run before) (b.next ++ b.more) =
+        subst (λ e. IsEndOfFile (journal_limits room) (before ++ added) (next_run before) mark e (b.next ++ b.more) b.coming) full b.ends in
         record {
           next = full_behind.next;
           passes = full_behind.passes;
@@ -165,7 +165,7 @@ module _ (room : RoomView) (before added : List Entry) (mark : Option (List Entr
       (crowded (loader + 1) libraries accepted refused results fewer fewer_marked others more) full
 
   -- with as many entries and bytes as fit, none passes a limit
-  pub never_crowded : (accepted : List (List Entry)) → length before + sum_by length accepted ≤ journal_limits.entries → entries_size before + sum_by entries_size accepted ≤ journal_limits.bytes
+  pub never_crowded : (accepted : List (List Entry)) → length before + sum_by length accepted ≤ (journal_limits room).entries → entries_size before + sum_by entries_size accepted ≤ (journal_limits room).bytes
       → Crowded 0 accepted → ⊥
   never_crowded accepted few small c =
       let one : IsRunless (λ e. 1) = λ run e. refl in
@@ -178,7 +178,7 @@ module _ (room : RoomView) (before added : List Entry) (mark : Option (List Entr
       let bytes = totals_are_sums entry_size entries_size (total_is_sum entry_size) accepted in
       let both_numbers = length-append before added in
       let both_sizes = sum_by-append entry_size before added in
-      let no_more : nat_lt journal_limits.entries (length (before ++ added) + 1) ≡ false = grind (arith, nat_tests) in
-      let no_larger : nat_lt journal_limits.bytes (entries_size (before ++ added) + entry_size (in_run (next_run before) c.next)) ≡ false = grind (arith, nat_tests) in
-      let passes : true ≡ false = sym c.passes ∙ ap (λ b. b || nat_lt journal_limits.bytes (entries_size (before ++ added) + entry_size (in_run (next_run before) c.next))) no_more ∙ no_larger in
+      let no_more : nat_lt (journal_limits room).entries (length (before ++ added) + 1) ≡ false = grind (arith, nat_tests) in
+      let no_larger : nat_lt (journal_limits room).bytes (entries_size (before ++ added) + entry_size (in_run (next_run before) c.next)) ≡ false = grind (arith, nat_tests) in
+      let passes : true ≡ false = sym c.passes ∙ ap (λ b. b || nat_lt (journal_limits room).bytes (entries_size (before ++ added) + entry_size (in_run (next_run before) c.next))) no_more ∙ no_larger in
       true≢false passes

@@ -5,7 +5,8 @@ use Rattle.std.proofs.lemmas.List.{length-append}
 use Rattle.std.proofs.lemmas.List.Sums.{sum_by-append}
 use Rattle.std.proofs.lemmas.Bool.Decides.{nat_tests}
 use Rattle.marc_types.specs.declared.entry.Entry.{Entry}
-use Rattle.marc_types.specs.Limits.{most_entries, most_bytes}
+use Rattle.marc_types.specs.declared.entry.Limits.{Limits}
+use Rattle.marc_types.specs.Limits.{limits_of}
 use Rattle.marc_stream.specs.Pieces.{Item, items}
 use Rattle.command_words.specs.declared.library.Library.{Library}
 use Rattle.command_words.specs.Command.{Holdings, libraries_of}
@@ -80,10 +81,10 @@ load_why fault.Memory remains usage input device = refl
 load_why fault.OldVersion remains usage input device = absurd remains
 load_why fault.OtherHistory remains usage input device = absurd remains
 
--- a file whose accepted entries are within the limits leaves no next one that passes them
-never_full_at : (library : List ℕ) (items : List Item) (accepted : List Entry) (refused : List RefusedItem) → IsJudged library 0 items accepted refused → IsWithinLimits accepted
-    → IsFullAt library items → ⊥
-never_full_at library items accepted refused judged within f =
+-- a file whose accepted entries are within some limits leaves no next one that passes them
+never_full_at : (limits : Limits) (library : List ℕ) (items : List Item) (accepted : List Entry) (refused : List RefusedItem) → IsJudged library 0 items accepted refused → IsWithinLimits limits accepted
+    → IsFullAt limits library items → ⊥
+never_full_at limits library items accepted refused judged within f =
     let split : items ≡ (f.done ++ f.item ∷ []) ++ f.rest = f.split ∙ sym (append_assoc f.done (f.item ∷ []) f.rest) in
     let part = made library 0 _ _ _ (Accepts f.done f.accepted f.refused f.item f.next f.judged f.entry) in
     let all = made library 0 _ _ _ (subst (λ is. IsJudged library 0 is accepted refused) split judged) in
@@ -95,10 +96,10 @@ never_full_at library items accepted refused judged within f =
     let one_bytes : entries_size (f.next ∷ []) ≡ entry_size f.next = omega arith in
     let few = within.entries in
     let small = within.bytes in
-    let no_more : nat_lt most_entries (length f.accepted + 1) ≡ false = grind (arith, nat_tests) in
-    let no_larger : nat_lt most_bytes (entries_size f.accepted + entry_size f.next) ≡ false = grind (arith, nat_tests) in
-    let full = subst (λ es. nat_lt most_entries (length es + 1) || nat_lt most_bytes (entries_size es + entry_size f.next) ≡ true) (append-nil f.accepted) f.full in
-    true≢false (sym full ∙ ap (λ b. b || nat_lt most_bytes (entries_size f.accepted + entry_size f.next)) no_more ∙ no_larger)
+    let no_more : nat_lt limits.entries (length f.accepted + 1) ≡ false = grind (arith, nat_tests) in
+    let no_larger : nat_lt limits.bytes (entries_size f.accepted + entry_size f.next) ≡ false = grind (arith, nat_tests) in
+    let full = subst (λ es. nat_lt limits.entries (length es + 1) || nat_lt limits.bytes (entries_size es + entry_size f.next) ≡ true) (append-nil f.accepted) f.full in
+    true≢false (sym full ∙ ap (λ b. b || nat_lt limits.bytes (entries_size f.accepted + entry_size f.next)) no_more ∙ no_larger)
 
 module _ (o : Outcome) where
   -- the command did not end so
@@ -113,8 +114,8 @@ module _ (o : Outcome) where
       let j = every_judged f.library.code 0 (items f.alone.bytes) in
       by_end o.end no_out p.no_side no_console
       (λ why is. pass_why why (p.told why is).1 (λ same. no_input (is ∙ ap Told same))
-      (λ same. never_full_at f.library.code (items f.alone.bytes) j.accepted j.refused j.judged (f.alone.within j.accepted j.refused j.judged)
-      (subst (λ file. IsSomeAnd file (λ bytes. IsFullAt f.library.code (items bytes))) f.alone.there (p.full (is ∙ ap Told same) f.tells))))
+      (λ same. never_full_at (limits_of o.old.is_large) f.library.code (items f.alone.bytes) j.accepted j.refused j.judged (f.alone.within j.accepted j.refused j.judged)
+      (subst (λ file. IsSomeAnd file (λ bytes. IsFullAt (limits_of o.old.is_large) f.library.code (items bytes))) f.alone.there (p.full (is ∙ ap Told same) f.tells))))
 
   pub makes_well : (seed count : ℕ) (out : List ℕ) → Makes seed count out o → Never out_unwritten → Never console_unwritten → EndsWell o.end
   makes_well seed count out m no_out no_console =
@@ -127,7 +128,7 @@ module _ (o : Outcome) where
       (λ why is.
       let w = (r.told why is).1 in
       w.is ∙ opening_well (log_bytes o.old journal) w.reason (λ old. subst EndsReading (is ∙ ap Told (w.is ∙ ap fault_of_opening old)) r.ends)
-      (may_be (log_bytes o.old journal) w.reason f.history (w.so f.tells)) (λ device. no_device (is ∙ ap Told (w.is ∙ device))))
+      (may_be o.old (log_bytes o.old journal) w.reason f.history (w.so f.tells)) (λ device. no_device (is ∙ ap Told (w.is ∙ device))))
 
   pub attaches_well : (words : List (List ℕ)) (journal out rest : List ℕ) (code : Option (List ℕ)) → Ends words (Holdings journal out rest code) o
       → FitsHoldings o.old journal (libraries_of words) → Never out_unwritten → Never side_unwritten → Never console_unwritten
@@ -138,7 +139,7 @@ module _ (o : Outcome) where
       (λ why is.
       let w = a.because why is (λ same. no_input (is ∙ ap Told same)) in
       w.is ∙ opening_well (log_bytes o.old journal) w.reason (λ old. subst EndsAttaching (is ∙ ap Told (w.is ∙ ap fault_of_opening old)) a.ends)
-      (may_be (log_bytes o.old journal) w.reason f.reading.history (w.so f.reading.tells)) (λ device. no_device (is ∙ ap Told (w.is ∙ device))))
+      (may_be o.old (log_bytes o.old journal) w.reason f.reading.history (w.so f.reading.tells)) (λ device. no_device (is ∙ ap Told (w.is ∙ device))))
 
   pub loads_well : (libraries : List Library) (journal : List ℕ) → Loads libraries journal o → FitsLoad o.old journal libraries
       → Never console_unwritten → Never (Told fault.Input) → Never (Told fault.Device) → EndsWell o.end

@@ -47,8 +47,8 @@ pub record FitsJudged (room : RoomView) (journal : List ℕ) (libraries : List L
   pub was : HasHistory before (log_bytes room journal)
   pub version : version_of (log_bytes room journal) ≡ 2
   pub judged : AreJudged room 0 libraries accepted refused
-  pub count : length before + sum_by length accepted ≤ journal_limits.entries
-  pub size : entries_size before + sum_by entries_size accepted ≤ journal_limits.bytes
+  pub count : length before + sum_by length accepted ≤ (journal_limits room).entries
+  pub size : entries_size before + sum_by entries_size accepted ≤ (journal_limits room).bytes
 
 pub fits_judged : (room : RoomView) (journal : List ℕ) (libraries : List Library) → FitsTogether room journal libraries → FitsJudged room journal libraries
 fits_judged room journal libraries fits =

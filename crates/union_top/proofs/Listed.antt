@@ -29,10 +29,10 @@ module _ (o : Outcome) (journal list page : List ℕ) (code : Option (List ℕ))
       (λ why is.
       let w = (m.told why is).1 in
       w.is ∙ opening_well (log_bytes o.old journal) w.reason (λ old. subst EndsListing (is ∙ ap Told (w.is ∙ ap fault_of_opening old)) m.ends)
-      (may_be (log_bytes o.old journal) w.reason f.history (w.so f.tells)) (λ device. no_device (is ∙ ap Told (w.is ∙ device))))
+      (may_be o.old (log_bytes o.old journal) w.reason f.history (w.so f.tells)) (λ device. no_device (is ∙ ap Told (w.is ∙ device))))
 
-  lists_status : (due : ℕ) → o.old.tells ≡ true → (HasFittingHistory (log_bytes o.old journal) → ⊥)
-      → ((reason : OpenFault) → IsUnopened journal_limits (log_bytes o.old journal) reason → (reason ≡ opening.OldVersion → ⊥)
+  lists_status : (due : ℕ) → o.old.tells ≡ true → (HasFittingHistory o.old (log_bytes o.old journal) → ⊥)
+      → ((reason : OpenFault) → IsUnopened (journal_limits o.old) (log_bytes o.old journal) reason → (reason ≡ opening.OldVersion → ⊥)
       → (fault_of_opening reason ≡ fault.Device → ⊥) → IsStatus due (fault_status (fault_of_opening reason)))
       → Never list_unwritten → Never page_unwritten → Never (Told fault.Device) → IsStatus due (end_status o.end)
   lists_status due tells unfit opens no_list no_page no_device =
@@ -48,8 +48,8 @@ module _ (o : Outcome) (journal list page : List ℕ) (code : Option (List ℕ))
   lists_refuses words tells no_list no_page no_device =
       let log = log_bytes o.old journal in
       record {
-        no_history = λ none. lists_status 6 tells (none_fits log none) (λ reason so current device. none_opened log none reason so device) no_list no_page no_device;
+        no_history = λ none. lists_status 6 tells (none_fits o.old log none) (λ reason so current device. none_opened o.old log none reason so device) no_list no_page no_device;
         other_version = λ no. absurd no;
         limits = λ large.
-            lists_status 7 tells (large_fits log large) (λ reason so current device. large_opened log large.entries large.has reason so current device) no_list no_page no_device;
+            lists_status 7 tells (large_fits o.old log large) (λ reason so current device. large_opened o.old log large.entries large.has reason so current device) no_list no_page no_device;
       }

@@ -33,12 +33,12 @@ module _ (o : Outcome) (journal list page : List ℕ) (code : Option (List ℕ))
       by_end o.end no_list (no_page, λ is. subst EndsListingUnheld is l.ends) (λ is. subst EndsListingUnheld is l.ends)
       (only_memory o journal l.so no_old no_input f)
 
-  list_unheld_status : (status : ℕ) (bytes : List ℕ) → o.old.tells ≡ true → o.old.file journal ≡ Some bytes → (HasFittingHistory bytes → ⊥)
-      → ((reason : OpenFault) → IsUnopened journal_limits bytes reason → (reason ≡ opening.OldVersion → ⊥) → (fault_of_opening reason ≡ fault.Device → ⊥)
+  list_unheld_status : (status : ℕ) (bytes : List ℕ) → o.old.tells ≡ true → o.old.file journal ≡ Some bytes → (HasFittingHistory o.old bytes → ⊥)
+      → ((reason : OpenFault) → IsUnopened (journal_limits o.old) bytes reason → (reason ≡ opening.OldVersion → ⊥) → (fault_of_opening reason ≡ fault.Device → ⊥)
       → IsStatus status (fault_status (fault_of_opening reason)))
       → Never list_unwritten → Never page_unwritten → Never (Told fault.Input) → IsStatus status (end_status o.end)
   list_unheld_status status bytes tells there unfit opens no_list no_page no_input =
-      by_told status o.end (λ good. unfit (subst (λ file. IsSomeAnd file HasFittingHistory) there (l.history (all_untold o.end good) tells))) no_list
+      by_told status o.end (λ good. unfit (subst (λ file. IsSomeAnd file (HasFittingHistory o.old)) there (l.history (all_untold o.end good) tells))) no_list
       (no_page, λ is. subst EndsListingUnheld is l.ends) (λ is. subst EndsListingUnheld is l.ends)
       (untaken_status o journal l.so no_old no_input status bytes tells there opens)
 
@@ -47,10 +47,10 @@ module _ (o : Outcome) (journal list page : List ℕ) (code : Option (List ℕ))
   lists_unheld_refuses words tells no_list no_page no_input = record {
     no_history = λ none.
         with_bytes (o.old.file journal) none (λ bytes there no.
-        list_unheld_status 6 bytes tells there (none_fits bytes no) (λ reason so current device. none_opened bytes no reason so device) no_list no_page no_input);
+        list_unheld_status 6 bytes tells there (none_fits o.old bytes no) (λ reason so current device. none_opened o.old bytes no reason so device) no_list no_page no_input);
     other_version = λ no. absurd no;
     limits = λ large.
         with_bytes (o.old.file journal) large (λ bytes there has.
-        list_unheld_status 7 bytes tells there (large_fits bytes has) (λ reason so current device. large_opened bytes has.entries has.has reason so current device)
+        list_unheld_status 7 bytes tells there (large_fits o.old bytes has) (λ reason so current device. large_opened o.old bytes has.entries has.has reason so current device)
         no_list no_page no_input);
   }

@@ -66,21 +66,21 @@ by_fault end P no_input memory other fault.OtherHistory is = other fault.OtherHi
 
 -- A fault was told that isn't of an input: for its reason in a journal that is an input, and not for its version.
 module _ (o : Outcome) (journal : List ℕ)
-    (so : (why : Fault) → o.end ≡ Told why → why ≢ fault.Input → why ≢ fault.Memory → o.old.tells ≡ true → IsSomeAnd (o.old.file journal) (λ bytes. WhyUntaken bytes why))
+    (so : (why : Fault) → o.end ≡ Told why → why ≢ fault.Input → why ≢ fault.Memory → o.old.tells ≡ true → IsSomeAnd (o.old.file journal) (λ bytes. WhyUntaken (journal_limits o.old) bytes why))
     (current : o.end ≡ Told fault.OldVersion → ⊥) (no_input : o.end ≡ Told fault.Input → ⊥) where
   untaken : (bytes : List ℕ) → o.old.tells ≡ true → o.old.file journal ≡ Some bytes → (why : Fault) → o.end ≡ Told why → why ≢ fault.Input → why ≢ fault.Memory
-      → WhyUntaken bytes why
-  untaken bytes tells there why is input memory = subst (λ file. IsSomeAnd file (λ bytes. WhyUntaken bytes why)) there (so why is input memory tells)
+      → WhyUntaken (journal_limits o.old) bytes why
+  untaken bytes tells there why is input memory = subst (λ file. IsSomeAnd file (λ bytes. WhyUntaken (journal_limits o.old) bytes why)) there (so why is input memory tells)
 
   -- where the journal fits it is want of memory
   pub only_memory : FitsLook o.old journal → (why : Fault) → o.end ≡ Told why → why ≡ fault.Memory
   only_memory f = by_fault o.end (λ why. why ≡ fault.Memory) no_input refl (λ why is input memory.
       let w = untaken f.bytes f.tells f.there why is input memory in
-      look_well f.bytes w.reason why w.is (may_be f.bytes w.reason f.history w.so) (λ old. current (is ∙ ap Told old)))
+      look_well f.bytes w.reason why w.is (may_be o.old f.bytes w.reason f.history w.so) (λ old. current (is ∙ ap Told old)))
 
   -- and else it has the status of an opening, or memory ran out
   pub untaken_status : (status : ℕ) (bytes : List ℕ) → o.old.tells ≡ true → o.old.file journal ≡ Some bytes
-      → ((reason : OpenFault) → IsUnopened journal_limits bytes reason → (reason ≡ opening.OldVersion → ⊥) → (fault_of_opening reason ≡ fault.Device → ⊥)
+      → ((reason : OpenFault) → IsUnopened (journal_limits o.old) bytes reason → (reason ≡ opening.OldVersion → ⊥) → (fault_of_opening reason ≡ fault.Device → ⊥)
       → IsStatus status (fault_status (fault_of_opening reason)))
       → (why : Fault) → o.end ≡ Told why → IsStatus status (fault_status why)
   untaken_status status bytes tells there opens = by_fault o.end (λ why. IsStatus status (fault_status why)) no_input (inr refl) (λ why is input memory.
@@ -100,12 +100,12 @@ module _ (o : Outcome) (journal out : List ℕ) (due : List Entry → List ℕ) 
       by_end o.end no_out (ends_so (Unwritten Side), ends_so (Unwritten Pages)) (ends_so (Unwritten Console))
       (only_memory o journal l.so (ends_so (Told fault.OldVersion)) no_input f)
 
-  looks_status : (status : ℕ) (bytes : List ℕ) → o.old.tells ≡ true → o.old.file journal ≡ Some bytes → (HasFittingHistory bytes → ⊥)
-      → ((reason : OpenFault) → IsUnopened journal_limits bytes reason → (reason ≡ opening.OldVersion → ⊥) → (fault_of_opening reason ≡ fault.Device → ⊥)
+  looks_status : (status : ℕ) (bytes : List ℕ) → o.old.tells ≡ true → o.old.file journal ≡ Some bytes → (HasFittingHistory o.old bytes → ⊥)
+      → ((reason : OpenFault) → IsUnopened (journal_limits o.old) bytes reason → (reason ≡ opening.OldVersion → ⊥) → (fault_of_opening reason ≡ fault.Device → ⊥)
       → IsStatus status (fault_status (fault_of_opening reason)))
       → Never out_unwritten → Never (Told fault.Input) → IsStatus status (end_status o.end)
   looks_status status bytes tells there unfit opens no_out no_input =
-      by_told status o.end (λ good. unfit (subst (λ file. IsSomeAnd file HasFittingHistory) there (l.history (all_untold o.end good) tells))) no_out
+      by_told status o.end (λ good. unfit (subst (λ file. IsSomeAnd file (HasFittingHistory o.old)) there (l.history (all_untold o.end good) tells))) no_out
       (ends_so (Unwritten Side), ends_so (Unwritten Pages)) (ends_so (Unwritten Console))
       (untaken_status o journal l.so (ends_so (Told fault.OldVersion)) no_input status bytes tells there opens)
 
@@ -114,11 +114,11 @@ pub looks_refuses : (o : Outcome) → o.old.tells ≡ true → (words : List (Li
 looks_refuses o tells words look journal out l no_out no_input = record {
   no_history = λ none.
       with_bytes (o.old.file journal) none (λ bytes there no.
-      looks_status o journal out (look_due look) l 6 bytes tells there (none_fits bytes no) (λ reason so current device. none_opened bytes no reason so device)
+      looks_status o journal out (look_due look) l 6 bytes tells there (none_fits o.old bytes no) (λ reason so current device. none_opened o.old bytes no reason so device)
       no_out no_input);
   other_version = λ no. absurd no;
   limits = λ large.
       with_bytes (o.old.file journal) large (λ bytes there has.
-      looks_status o journal out (look_due look) l 7 bytes tells there (large_fits bytes has) (λ reason so current device. large_opened bytes has.entries has.has reason so current device)
+      looks_status o journal out (look_due look) l 7 bytes tells there (large_fits o.old bytes has) (λ reason so current device. large_opened o.old bytes has.entries has.has reason so current device)
       no_out no_input);
 }

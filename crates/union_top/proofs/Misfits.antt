@@ -29,11 +29,11 @@ use mathlib.Core.HLevel.{⊥_prop}
 -- ---- an opening
 
 -- a log that has a history is no journal nowhere
-has_journal : (log : List ℕ) (entries : List Entry) (place : ℕ) → HasHistory entries log → IsUnopened journal_limits log (opening.NotAJournal place) → ⊥
-has_journal log entries place has so = ∥∥₁_elim has ⊥_prop (λ is. no_journal log place entries is so)
+has_journal : (room : RoomView) (log : List ℕ) (entries : List Entry) (place : ℕ) → HasHistory entries log → IsUnopened (journal_limits room) log (opening.NotAJournal place) → ⊥
+has_journal room log entries place has so = ∥∥₁_elim has ⊥_prop (λ is. no_journal room log place entries is so)
 
-module _ (log : List ℕ) where
-  pub none_opened : IsNoHistory log → (of : OpenFault) → IsUnopened journal_limits log of → (fault_of_opening of ≡ fault.Device → ⊥)
+module _ (room : RoomView) (log : List ℕ) where
+  pub none_opened : IsNoHistory log → (of : OpenFault) → IsUnopened (journal_limits room) log of → (fault_of_opening of ≡ fault.Device → ⊥)
       → IsStatus 6 (fault_status (fault_of_opening of))
   none_opened none opening.DeviceFault so device = absurd (device refl)
   none_opened none (opening.NotAJournal place) so device = inl refl
@@ -41,10 +41,10 @@ module _ (log : List ℕ) where
   none_opened none opening.Full so device = absurd (none so.0 ∣ so.1 ∣₁)
   none_opened none opening.NoMemory so device = inr refl
 
-  pub old_opened : IsOfVersion 1 log → (of : OpenFault) → IsUnopened journal_limits log of → (of ≡ opening.Full → version_of log ≡ 2)
+  pub old_opened : IsOfVersion 1 log → (of : OpenFault) → IsUnopened (journal_limits room) log of → (of ≡ opening.Full → version_of log ≡ 2)
       → (fault_of_opening of ≡ fault.Device → ⊥) → IsStatus 9 (fault_status (fault_of_opening of))
   old_opened old opening.DeviceFault so current device = absurd (device refl)
-  old_opened old (opening.NotAJournal place) so current device = absurd (has_journal log old.entries place old.has so)
+  old_opened old (opening.NotAJournal place) so current device = absurd (has_journal room log old.entries place old.has so)
   old_opened old opening.OldVersion so current device = inl refl
   old_opened old opening.Full so current device =
       let newest : version_of log ≡ 2 = current refl in
@@ -52,21 +52,21 @@ module _ (log : List ℕ) where
       absurd (omega (arith, oldest, newest))
   old_opened old opening.NoMemory so current device = inr refl
 
-  pub large_opened : (entries : List Entry) → HasHistory entries log → (of : OpenFault) → IsUnopened journal_limits log of → (of ≡ opening.OldVersion → ⊥)
+  pub large_opened : (entries : List Entry) → HasHistory entries log → (of : OpenFault) → IsUnopened (journal_limits room) log of → (of ≡ opening.OldVersion → ⊥)
       → (fault_of_opening of ≡ fault.Device → ⊥) → IsStatus 7 (fault_status (fault_of_opening of))
   large_opened entries has opening.DeviceFault so current device = absurd (device refl)
-  large_opened entries has (opening.NotAJournal place) so current device = absurd (has_journal log entries place has so)
+  large_opened entries has (opening.NotAJournal place) so current device = absurd (has_journal room log entries place has so)
   large_opened entries has opening.OldVersion so current device = absurd (current refl)
   large_opened entries has opening.Full so current device = inl refl
   large_opened entries has opening.NoMemory so current device = inr refl
 
-  pub none_fits : IsNoHistory log → HasFittingHistory log → ⊥
+  pub none_fits : IsNoHistory log → HasFittingHistory room log → ⊥
   none_fits none fits = ∥∥₁_elim fits ⊥_prop (λ f. none f.0 ∣ f.1 ∣₁)
 
-  pub large_fits : IsTooLarge log → HasFittingHistory log → ⊥
+  pub large_fits : IsTooLarge (journal_limits room) log → HasFittingHistory room log → ⊥
   large_fits large fits =
       ∥∥₁_elim fits ⊥_prop (λ f. ∥∥₁_elim large.has ⊥_prop (λ has.
-      large.passes (subst (IsWithin journal_limits) (reading_once f.0 large.entries log f.1 has) f.2)))
+      large.passes (subst (IsWithin (journal_limits room)) (reading_once f.0 large.entries log f.1 has) f.2)))
 
 -- ---- an end
 
@@ -108,7 +108,7 @@ module _ (old new : RoomView) (journal : List ℕ) (libraries : List Library) (t
   device_of of is device = no_device (is ∙ device)
 
   pub none_loaded : IsNoHistory log → IsLoadingFault old new journal libraries why → IsStatus 6 (fault_status why)
-  none_loaded none (NotBegun (Unopened of is so current keeps)) = of_status 6 of is (none_opened log none of so (device_of of is))
+  none_loaded none (NotBegun (Unopened of is so current keeps)) = of_status 6 of is (none_opened old log none of so (device_of of is))
   none_loaded none (NotBegun (Unbegun before o which opened closed unread)) = absurd (none before (opened.history tells))
   none_loaded none (InPart p) = absurd (none p.before (p.opened.history tells))
 
@@ -116,16 +116,16 @@ module _ (old new : RoomView) (journal : List ℕ) (libraries : List Library) (t
   other_version oldest newest = absurd (omega (arith, oldest, newest))
 
   pub old_loaded : IsOfVersion 1 log → IsLoadingFault old new journal libraries why → IsStatus 9 (fault_status why)
-  old_loaded one (NotBegun (Unopened of is so current keeps)) = of_status 9 of is (old_opened log one of so current (device_of of is))
+  old_loaded one (NotBegun (Unopened of is so current keeps)) = of_status 9 of is (old_opened old log one of so current (device_of of is))
   old_loaded one (NotBegun (Unbegun before o which opened closed unread)) = other_version one.version_is (opened.version tells)
   old_loaded one (InPart p) = other_version one.version_is (p.opened.version tells)
 
   pub large_loaded : IsOfVersion 2 log → IsLoadingFault old new journal libraries why → IsStatus 7 (fault_status why)
   unfolding loading_fault
-  large_loaded two (NotBegun (Unopened of is so current keeps)) = of_status 7 of is (large_opened log two.entries two.has of so not_old (device_of of is))
+  large_loaded two (NotBegun (Unopened of is so current keeps)) = of_status 7 of is (large_opened old log two.entries two.has of so not_old (device_of of is))
     where
       not_old : of ≡ opening.OldVersion → ⊥
-      not_old same = let old = subst (IsUnopened journal_limits log) same so in other_version old.0 two.version_is
+      not_old same = let old = subst (IsUnopened (journal_limits old) log) same so in other_version old.0 two.version_is
   large_loaded two (NotBegun (Unbegun before o (inl input) opened closed unread)) = absurd (no_input input)
   large_loaded two (NotBegun (Unbegun before o (inr memory) opened closed unread)) = inr (ap fault_status memory)
   large_loaded two (InPart p) =

@@ -3,7 +3,7 @@
 use Rattle.std.proofs.Common.{◌≡◌, ◌≢◌, inl, inr, ℕ, true, List, Option, Some, None, refl, sym, ap, subst, ◌∙◌}
 use Rattle.std.specs.Prelude.{IfSome, IsSomeAnd}
 use Rattle.marc_types.specs.declared.entry.Entry.{Entry}
-use Rattle.outside.specs.Room.{bytes_or_none}
+use Rattle.outside.specs.Room.{RoomView, bytes_or_none}
 use Rattle.command_words.specs.Command.{VerifyPoint}
 use Rattle.console_lines.specs.Ends.{Outcome, IsAllDone, end_status, console_unwritten}
 use Rattle.console_lines.specs.Faults.{fault_status}
@@ -60,31 +60,31 @@ look_old opening.Full is = cc
 look_old opening.NoMemory is = cc
 
 -- why nothing is told of files that fit: memory ran out
-why_well : (journal point : List ℕ) (why : Fault) (last : Option Point) → HasFittingHistory journal → IsPointLog last point
+why_well : (room : RoomView) (journal point : List ℕ) (why : Fault) (last : Option Point) → HasFittingHistory room journal → IsPointLog last point
     → ((history : List Entry) (found : Option Point) → HasHistory history journal → IsPointLog found point → IsSomeAnd found (IsOfFront history))
-    → WhyNotOwn journal point why → why ≡ fault.Memory
-why_well journal point why last fits log own (OfJournal reason current is so) =
-    look_well journal reason why is (may_be journal reason fits so) (λ old. current (look_old reason (sym is ∙ old)))
-why_well journal point why last fits log own (OfPoint history has within reason is so) = is ∙ point_well reason (taken_well point last reason log so)
-why_well journal point why last fits log own (OfBoth history has within found found_log other) = not_own_well (own history found has found_log) other
+    → WhyNotOwn (journal_limits room) journal point why → why ≡ fault.Memory
+why_well room journal point why last fits log own (OfJournal reason current is so) =
+    look_well journal reason why is (may_be room journal reason fits so) (λ old. current (look_old reason (sym is ∙ old)))
+why_well room journal point why last fits log own (OfPoint history has within reason is so) = is ∙ point_well reason (taken_well point last reason log so)
+why_well room journal point why last fits log own (OfBoth history has within found found_log other) = not_own_well (own history found has found_log) other
 
 -- why nothing is told where the journal has no history within the limits, or where the log of checkpoints is of version 1
-unfit_status : (due : ℕ) (journal point : List ℕ) (why : Fault) → (HasFittingHistory journal → ⊥)
-    → ((reason : OpenFault) → IsUnopened journal_limits journal reason → reason ≢ opening.OldVersion → (fault_of_opening reason ≡ fault.Device → ⊥)
+unfit_status : (room : RoomView) (due : ℕ) (journal point : List ℕ) (why : Fault) → (HasFittingHistory room journal → ⊥)
+    → ((reason : OpenFault) → IsUnopened (journal_limits room) journal reason → reason ≢ opening.OldVersion → (fault_of_opening reason ≡ fault.Device → ⊥)
     → IsStatus due (fault_status (fault_of_opening reason)))
-    → WhyNotOwn journal point why → IsStatus due (fault_status why)
-unfit_status due journal point why unfit opens (OfJournal reason current is so) =
+    → WhyNotOwn (journal_limits room) journal point why → IsStatus due (fault_status why)
+unfit_status room due journal point why unfit opens (OfJournal reason current is so) =
     subst (λ f. IsStatus due (fault_status f)) (sym is) (look_status due reason (opens reason so current))
-unfit_status due journal point why unfit opens (OfPoint history has within reason is so) = absurd (unfit (fitting_history history journal has within))
-unfit_status due journal point why unfit opens (OfBoth history has within found found_log other) = absurd (unfit (fitting_history history journal has within))
+unfit_status room due journal point why unfit opens (OfPoint history has within reason is so) = absurd (unfit (fitting_history room history journal has within))
+unfit_status room due journal point why unfit opens (OfBoth history has within found found_log other) = absurd (unfit (fitting_history room history journal has within))
 
-old_why : (journal point : List ℕ) (why : Fault) (last : Option Point) → HasFittingHistory journal → HasLast last point → version_of point ≡ 1
-    → WhyNotOwn journal point why → IsStatus 9 (fault_status why)
-old_why journal point why last fits has_last oldest (OfJournal reason current is so) =
-    inr (ap fault_status (look_well journal reason why is (may_be journal reason fits so) (λ old. current (look_old reason (sym is ∙ old)))))
-old_why journal point why last fits has_last oldest (OfPoint history has within reason is so) =
+old_why : (room : RoomView) (journal point : List ℕ) (why : Fault) (last : Option Point) → HasFittingHistory room journal → HasLast last point → version_of point ≡ 1
+    → WhyNotOwn (journal_limits room) journal point why → IsStatus 9 (fault_status why)
+old_why room journal point why last fits has_last oldest (OfJournal reason current is so) =
+    inr (ap fault_status (look_well journal reason why is (may_be room journal reason fits so) (λ old. current (look_old reason (sym is ∙ old)))))
+old_why room journal point why last fits has_last oldest (OfPoint history has within reason is so) =
     subst (λ f. IsStatus 9 (fault_status f)) (sym is) (look_status 9 reason (old_taken point last reason has_last so))
-old_why journal point why last fits has_last oldest (OfBoth history has within found found_log other) = absurd (both_versions point oldest found_log.newest)
+old_why room journal point why last fits has_last oldest (OfBoth history has within found found_log other) = absurd (both_versions point oldest found_log.newest)
 
 own_by_end : (end : End) → EndsVerifyingPoint end → (end ≡ console_unwritten → ⊥) → ((why : Fault) → end ≡ Told why → why ≡ fault.Memory) → EndsWell end
 own_by_end Done kind console told = inl tt
@@ -117,13 +117,13 @@ module _ (o : Outcome) (journal point : List ℕ) (v : VerifiesPoint journal poi
       let t = v.so why is input memory f.look.tells in
       let one = same_file (o.old.file journal) t.history_bytes f.look.bytes t.history_file f.look.there in
       let other = same_file (o.old.file point) t.point_bytes f.point_bytes t.point_file f.point_there in
-      why_well f.look.bytes f.point_bytes why f.last f.look.history f.is f.own
-      (subst (λ bytes. WhyNotOwn bytes f.point_bytes why) one (subst (λ bytes. WhyNotOwn t.history_bytes bytes why) other t.so))))
+      why_well o.old f.look.bytes f.point_bytes why f.last f.look.history f.is f.own
+      (subst (λ bytes. WhyNotOwn (journal_limits o.old) bytes f.point_bytes why) one (subst (λ bytes. WhyNotOwn (journal_limits o.old) t.history_bytes bytes why) other t.so))))
 
   module _ (tells : o.old.tells ≡ true) where
     -- the journal has no history within the limits, and this is how its bytes are refused
-    journal_status : (due : ℕ) (bytes : List ℕ) → o.old.file journal ≡ Some bytes → (HasFittingHistory bytes → ⊥)
-        → ((reason : OpenFault) → IsUnopened journal_limits bytes reason → reason ≢ opening.OldVersion → (fault_of_opening reason ≡ fault.Device → ⊥)
+    journal_status : (due : ℕ) (bytes : List ℕ) → o.old.file journal ≡ Some bytes → (HasFittingHistory o.old bytes → ⊥)
+        → ((reason : OpenFault) → IsUnopened (journal_limits o.old) bytes reason → reason ≢ opening.OldVersion → (fault_of_opening reason ≡ fault.Device → ⊥)
         → IsStatus due (fault_status (fault_of_opening reason)))
         → IsStatus due (end_status o.end)
     journal_status due bytes there unfit opens =
@@ -131,12 +131,12 @@ module _ (o : Outcome) (journal point : List ℕ) (v : VerifiesPoint journal poi
         (λ good.
         let t = v.own (all_untold o.end good) tells in
         let one = same_file (o.old.file journal) t.history_bytes bytes t.history_file there in
-        unfit (subst HasFittingHistory one (fitting_history t.own.history t.history_bytes t.own.has t.own.within)))
+        unfit (subst (HasFittingHistory o.old) one (fitting_history o.old t.own.history t.history_bytes t.own.has t.own.within)))
         no_console
         (by_fault o.end (λ why. IsStatus due (fault_status why)) no_input (inr refl) (λ why is input memory.
         let t = v.so why is input memory tells in
         let one = same_file (o.old.file journal) t.history_bytes bytes t.history_file there in
-        unfit_status due bytes t.point_bytes why unfit opens (subst (λ bytes. WhyNotOwn bytes t.point_bytes why) one t.so)))
+        unfit_status o.old due bytes t.point_bytes why unfit opens (subst (λ bytes. WhyNotOwn (journal_limits o.old) bytes t.point_bytes why) one t.so)))
 
     -- the log of checkpoints is of version 1
     old_status : IsOldPoint o.old journal point → IsStatus 9 (end_status o.end)
@@ -148,7 +148,7 @@ module _ (o : Outcome) (journal point : List ℕ) (v : VerifiesPoint journal poi
         no_console
         (by_fault o.end (λ why. IsStatus 9 (fault_status why)) no_input (inr refl) (λ why is input memory.
         let t = v.so why is input memory tells in
-        old_why t.history_bytes t.point_bytes why old.last (subst HasFittingHistory (ap bytes_or_none t.history_file) old.history)
+        old_why o.old t.history_bytes t.point_bytes why old.last (subst (HasFittingHistory o.old) (ap bytes_or_none t.history_file) old.history)
         (subst (HasLast old.last) (ap bytes_or_none t.point_file) old.has) (subst (λ log. version_of log ≡ 1) (ap bytes_or_none t.point_file) old.oldest) t.so))
 
 pub owns_refuses : (o : Outcome) → o.old.tells ≡ true → (words : List (List ℕ)) (journal point : List ℕ) → VerifiesPoint journal point o
@@ -156,10 +156,10 @@ pub owns_refuses : (o : Outcome) → o.old.tells ≡ true → (words : List (Lis
 owns_refuses o tells words journal point v no_console no_input = record {
   no_history = λ none.
       with_bytes (o.old.file journal) none (λ bytes there no.
-      journal_status o journal point v no_console no_input tells 6 bytes there (none_fits bytes no) (λ reason so current device. none_opened bytes no reason so device));
+      journal_status o journal point v no_console no_input tells 6 bytes there (none_fits o.old bytes no) (λ reason so current device. none_opened o.old bytes no reason so device));
   other_version = old_status o journal point v no_console no_input tells;
   limits = λ large.
       with_bytes (o.old.file journal) large (λ bytes there has.
-      journal_status o journal point v no_console no_input tells 7 bytes there (large_fits bytes has)
-      (λ reason so current device. large_opened bytes has.entries has.has reason so current device));
+      journal_status o journal point v no_console no_input tells 7 bytes there (large_fits o.old bytes has)
+      (λ reason so current device. large_opened o.old bytes has.entries has.has reason so current device));
 }

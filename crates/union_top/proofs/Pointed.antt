@@ -106,7 +106,7 @@ module _ (o : Outcome) (journal point : List ℕ) (f : FitsPoint o.old journal p
   of_journal why r =
       let w = r.unopened in
       w.is ∙ opening_well (log_bytes o.old journal) w.reason (λ old. r.current (w.is ∙ ap fault_of_opening old))
-      (may_be (log_bytes o.old journal) w.reason f.reading.history (w.so f.reading.tells)) (λ device. no_journal (r.cause (w.is ∙ device)))
+      (may_be o.old (log_bytes o.old journal) w.reason f.reading.history (w.so f.reading.tells)) (λ device. no_journal (r.cause (w.is ∙ device)))
 
   of_point : (why : Fault) → IsRefusedBehind journal point why o.old o.new → why ≡ fault.Memory
   of_point why r =

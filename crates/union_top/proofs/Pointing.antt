@@ -7,7 +7,7 @@ use Rattle.console_lines.specs.Faults.{fault_status}
 use Rattle.console_lines.specs.declared.fault.Fault.{Fault}
 use Rattle.durable_catalogue.specs.declared.fault.OpenFault.{OpenFault}
 use Rattle.journal_files.specs.Faults.{fault_of_opening}
-use Rattle.journal_files.specs.Journals.{log_bytes}
+use Rattle.journal_files.specs.Journals.{journal_limits, log_bytes}
 use Rattle.journal_files.proofs.Faults.{opening_device}
 use Rattle.journal_files.proofs.Histories.{fitting_history}
 use Rattle.checkpoint_commands.specs.Refusals.{IsJournalRefused, IsRefusedBehind}
@@ -33,22 +33,22 @@ module _ (o : Outcome) (tells : o.old.tells ≡ true) (journal point : List ℕ)
   none_told : IsNoHistory (log_bytes o.old journal) → (why : Fault) → Refusal why → IsStatus 6 (fault_status why)
   none_told none why (inl r) =
       let w = r.unopened in
-      status_of 6 why w.reason w.is (none_opened (log_bytes o.old journal) none w.reason (w.so tells) (λ device. no_journal (r.cause (w.is ∙ device))))
-  none_told none why (inr r) = absurd (none_fits (log_bytes o.old journal) none (r.history tells))
+      status_of 6 why w.reason w.is (none_opened o.old (log_bytes o.old journal) none w.reason (w.so tells) (λ device. no_journal (r.cause (w.is ∙ device))))
+  none_told none why (inr r) = absurd (none_fits o.old (log_bytes o.old journal) none (r.history tells))
 
-  large_told : IsTooLarge (log_bytes o.old journal) → (why : Fault) → Refusal why → IsStatus 7 (fault_status why)
+  large_told : IsTooLarge (journal_limits o.old) (log_bytes o.old journal) → (why : Fault) → Refusal why → IsStatus 7 (fault_status why)
   large_told large why (inl r) =
       let w = r.unopened in
       status_of 7 why w.reason w.is
-      (large_opened (log_bytes o.old journal) large.entries large.has w.reason (w.so tells) (λ old. r.current (w.is ∙ ap fault_of_opening old))
+      (large_opened o.old (log_bytes o.old journal) large.entries large.has w.reason (w.so tells) (λ old. r.current (w.is ∙ ap fault_of_opening old))
       (λ device. no_journal (r.cause (w.is ∙ device))))
-  large_told large why (inr r) = absurd (large_fits (log_bytes o.old journal) large (r.history tells))
+  large_told large why (inr r) = absurd (large_fits o.old (log_bytes o.old journal) large (r.history tells))
 
   old_told : IsOldPoint o.old journal point → (why : Fault) → Refusal why → IsStatus 9 (fault_status why)
   old_told old why (inl r) =
       let w = r.unopened in
       inr (ap fault_status (w.is ∙ opening_well (log_bytes o.old journal) w.reason (λ same. r.current (w.is ∙ ap fault_of_opening same))
-      (may_be (log_bytes o.old journal) w.reason old.history (w.so tells)) (λ device. no_journal (r.cause (w.is ∙ device)))))
+      (may_be o.old (log_bytes o.old journal) w.reason old.history (w.so tells)) (λ device. no_journal (r.cause (w.is ∙ device)))))
   old_told old why (inr r) =
       status_of 9 why r.reason r.is
       (old_taken (log_bytes o.old point) old.last r.reason old.has (r.refused.so tells) (λ device. no_point (r.refused.cause (opening_device r.reason device))))
@@ -73,7 +73,7 @@ module _ (o : Outcome) (tells : o.old.tells ≡ true) (words : List (List ℕ)) 
           checkpoint_status 7
           (λ all.
           let w = c.whole (all_untold o.end all) tells in
-          large_fits (log_bytes o.old journal) large (fitting_history w.history (log_bytes o.old journal) w.has w.within))
+          large_fits o.old (log_bytes o.old journal) large (fitting_history o.old w.history (log_bytes o.old journal) w.has w.within))
           (large_told o tells journal point s.0 s.1 large);
     }
 
@@ -95,12 +95,12 @@ module _ (o : Outcome) (tells : o.old.tells ≡ true) (words : List (List ℕ)) 
         (λ all. let r = (q.exported (all_untold o.end all) tells).resumed in both_versions (log_bytes o.old point) old.oldest r.was.newest)
         (old_told o tells journal point no_journal no_point old)
 
-    quick_large : IsTooLarge (log_bytes o.old journal) → IsStatus 7 (end_status o.end)
+    quick_large : IsTooLarge (journal_limits o.old) (log_bytes o.old journal) → IsStatus 7 (end_status o.end)
     quick_large large =
         quick_status 7
         (λ all.
         let r = (q.exported (all_untold o.end all) tells).resumed in
-        large_fits (log_bytes o.old journal) large (fitting_history r.history (log_bytes o.old journal) r.has r.within))
+        large_fits o.old (log_bytes o.old journal) large (fitting_history o.old r.history (log_bytes o.old journal) r.has r.within))
         (large_told o tells journal point no_journal no_point large)
 
   pub quick_refuses : (out : List ℕ) → ExportsQuickly journal point out None o → CountsStayed words (Quick journal point out) (around_of o)

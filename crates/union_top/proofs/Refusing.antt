@@ -2,7 +2,7 @@
 use Rattle.std.proofs.Common.{◌≡◌, ◌≢◌, ◌⊎◌, inl, inr, ℕ, true, List, [], ◌∷◌, ◌++◌, Option, Some, refl, sym, ap, subst, ◌∙◌, arith}
 use Rattle.std.proofs.Math.Logic.{∥∥₁_elim}
 use Rattle.marc_types.specs.declared.entry.Entry.{Entry}
-use Rattle.outside.specs.Room.{SameBut}
+use Rattle.outside.specs.Room.{RoomView, SameBut}
 use Rattle.commit_journal.specs.Log.{version_of}
 use Rattle.command_words.specs.declared.library.Library.{Library}
 use Rattle.command_words.specs.Command.{Command, Pass, Run, Load, Browse, Export, Report, Make, Verify, VerifyPoint, VerifyDigest, Matches, Holdings, Headings, Worklist, Migrate, Salvage, Checkpoint, Quick, QuickReport, Read, ReadHoldings, ReadWorklist, Refused as RefusedOf, Help, Version, libraries_of}
@@ -54,22 +54,22 @@ no_fault (Unwritten which) good = absurd good
 no_fault (Told why) good = absurd good
 
 -- what an opening that isn't of an old version says of a status
-abbrev OpensWith : ℕ → List ℕ → Type 0
-OpensWith due log = (of : OpenFault) → IsUnopened journal_limits log of → (of ≡ opening.OldVersion → ⊥) → (fault_of_opening of ≡ fault.Device → ⊥)
+abbrev OpensWith : RoomView → ℕ → List ℕ → Type 0
+OpensWith room due log = (of : OpenFault) → IsUnopened (journal_limits room) log of → (of ≡ opening.OldVersion → ⊥) → (fault_of_opening of ≡ fault.Device → ⊥)
     → IsStatus due (fault_status (fault_of_opening of))
 
-none_opens : (log : List ℕ) → IsNoHistory log → OpensWith 6 log
-none_opens log none of so current device = none_opened log none of so device
+none_opens : (room : RoomView) (log : List ℕ) → IsNoHistory log → OpensWith room 6 log
+none_opens room log none of so current device = none_opened room log none of so device
 
-large_opens : (log : List ℕ) → IsTooLarge log → OpensWith 7 log
-large_opens log large of so current device = large_opened log large.entries large.has of so current device
+large_opens : (room : RoomView) (log : List ℕ) → IsTooLarge (journal_limits room) log → OpensWith room 7 log
+large_opens room log large of so current device = large_opened room log large.entries large.has of so current device
 
 module _ (o : Outcome) (tells : o.old.tells ≡ true) where
   abbrev Never : End → Type 0
   Never end = o.end ≡ end → ⊥
 
   -- ---- commands that read a journal
-  module _ (due : ℕ) (journal : List ℕ) (unfit : HasFittingHistory (log_bytes o.old journal) → ⊥) (opens : OpensWith due (log_bytes o.old journal)) where
+  module _ (due : ℕ) (journal : List ℕ) (unfit : HasFittingHistory o.old (log_bytes o.old journal) → ⊥) (opens : OpensWith o.old due (log_bytes o.old journal)) where
     reads_status : (out : List ℕ) (bytes : List Entry → List ℕ) → ReadsJournal journal out bytes o → Never out_unwritten → Never (Told fault.Device)
         → IsStatus due (end_status o.end)
     reads_status out bytes r no_out no_device =
@@ -125,7 +125,7 @@ module _ (o : Outcome) (tells : o.old.tells ≡ true) where
         ∥∥₁_elim large.journal_is.has ⊥_prop (λ has. ∥∥₁_elim m.history.was ⊥_prop (λ was.
         let same : m.before ≡ large.journal_is.entries = reading_once m.before large.journal_is.entries (log_bytes o.old journal) was has in
         large.pass m.added m.accepted m.refused m.history.judged (subst (λ before. IsMerged before m.accepted m.added) same m.history.merged)
-        (subst (λ before. IsWithin journal_limits (before ++ m.added)) same m.history.within)))
+        (subst (λ before. IsWithin (journal_limits o.old) (before ++ m.added)) same m.history.within)))
 
   -- ---- the command that brings a journal's history into another
   module _ (from into : List ℕ) (m : Migrates from into o) (no_device : Never (Told fault.Device)) (no_console : Never console_unwritten) where
@@ -146,38 +146,38 @@ module _ (o : Outcome) (tells : o.old.tells ≡ true) where
 
     none_migrates : IsNoHistory (log_bytes o.old from) → IsStatus 6 (end_status o.end)
     none_migrates none =
-        migrates_status 6 (λ done. none_fits (log_bytes o.old from) none (m.history done tells)) of_from
-        (λ why w. none_fits (log_bytes o.old from) none (w.history tells))
+        migrates_status 6 (λ done. none_fits o.old (log_bytes o.old from) none (m.history done tells)) of_from
+        (λ why w. none_fits o.old (log_bytes o.old from) none (w.history tells))
       where
         of_from : (why : Fault) → o.end ≡ Told why → WhyNotFrom o.old from why → IsStatus 6 (fault_status why)
         of_from why is (NotOpened reason current told so) =
-            subst (λ f. IsStatus 6 (fault_status f)) (sym told) (none_opened (log_bytes o.old from) none reason (so tells) (device_of why reason is told))
-        of_from why is (Newest told so) = absurd (none_fits (log_bytes o.old from) none (so tells).1)
+            subst (λ f. IsStatus 6 (fault_status f)) (sym told) (none_opened o.old (log_bytes o.old from) none reason (so tells) (device_of why reason is told))
+        of_from why is (Newest told so) = absurd (none_fits o.old (log_bytes o.old from) none (so tells).1)
 
-    large_migrates : IsTooLarge (log_bytes o.old from) → IsStatus 7 (end_status o.end)
+    large_migrates : IsTooLarge (journal_limits o.old) (log_bytes o.old from) → IsStatus 7 (end_status o.end)
     large_migrates large =
-        migrates_status 7 (λ done. large_fits (log_bytes o.old from) large (m.history done tells)) of_from
-        (λ why w. large_fits (log_bytes o.old from) large (w.history tells))
+        migrates_status 7 (λ done. large_fits o.old (log_bytes o.old from) large (m.history done tells)) of_from
+        (λ why w. large_fits o.old (log_bytes o.old from) large (w.history tells))
       where
         of_from : (why : Fault) → o.end ≡ Told why → WhyNotFrom o.old from why → IsStatus 7 (fault_status why)
         of_from why is (NotOpened reason current told so) =
             subst (λ f. IsStatus 7 (fault_status f)) (sym told)
-            (large_opened (log_bytes o.old from) large.entries large.has reason (so tells) current (device_of why reason is told))
-        of_from why is (Newest told so) = absurd (large_fits (log_bytes o.old from) large (so tells).1)
+            (large_opened o.old (log_bytes o.old from) large.entries large.has reason (so tells) current (device_of why reason is told))
+        of_from why is (Newest told so) = absurd (large_fits o.old (log_bytes o.old from) large (so tells).1)
 
-    newest_migrates : IsOfVersion 2 (log_bytes o.old from) → HasFittingHistory (log_bytes o.old from) → IsStatus 9 (end_status o.end)
+    newest_migrates : IsOfVersion 2 (log_bytes o.old from) → HasFittingHistory o.old (log_bytes o.old from) → IsStatus 9 (end_status o.end)
     newest_migrates two fits =
         migrates_status 9 (λ done. other (m.version done tells)) of_from (λ why w. other (w.oldest tells))
       where
         other : version_of (log_bytes o.old from) ≡ 1 → ⊥
         other oldest = let newest : version_of (log_bytes o.old from) ≡ 2 = two.version_is in omega (arith, oldest, newest)
 
-        opened : (reason : OpenFault) → IsUnopened journal_limits (log_bytes o.old from) reason → reason ≢ opening.OldVersion
+        opened : (reason : OpenFault) → IsUnopened (journal_limits o.old) (log_bytes o.old from) reason → reason ≢ opening.OldVersion
             → (fault_of_opening reason ≡ fault.Device → ⊥) → IsStatus 9 (fault_status (fault_of_opening reason))
         opened opening.DeviceFault so current device = absurd (device refl)
-        opened (opening.NotAJournal place) so current device = absurd (may_be (log_bytes o.old from) (opening.NotAJournal place) fits so)
+        opened (opening.NotAJournal place) so current device = absurd (may_be o.old (log_bytes o.old from) (opening.NotAJournal place) fits so)
         opened opening.OldVersion so current device = absurd (current refl)
-        opened opening.Full so current device = absurd (may_be (log_bytes o.old from) opening.Full fits so)
+        opened opening.Full so current device = absurd (may_be o.old (log_bytes o.old from) opening.Full fits so)
         opened opening.NoMemory so current device = inr refl
 
         of_from : (why : Fault) → o.end ≡ Told why → WhyNotFrom o.old from why → IsStatus 9 (fault_status why)
@@ -227,12 +227,12 @@ module _ (o : Outcome) (tells : o.old.tells ≡ true) where
   read_none : (journal out : List ℕ) (bytes : List Entry → List ℕ) → ReadsJournal journal out bytes o → Never out_unwritten → Never (Told fault.Device)
       → IsNoHistory (log_bytes o.old journal) → IsStatus 6 (end_status o.end)
   read_none journal out bytes r no_out no_device none =
-      reads_status 6 journal (none_fits (log_bytes o.old journal) none) (none_opens (log_bytes o.old journal) none) out bytes r no_out no_device
+      reads_status 6 journal (none_fits o.old (log_bytes o.old journal) none) (none_opens o.old (log_bytes o.old journal) none) out bytes r no_out no_device
 
   read_large : (journal out : List ℕ) (bytes : List Entry → List ℕ) → ReadsJournal journal out bytes o → Never out_unwritten → Never (Told fault.Device)
-      → IsTooLarge (log_bytes o.old journal) → IsStatus 7 (end_status o.end)
+      → IsTooLarge (journal_limits o.old) (log_bytes o.old journal) → IsStatus 7 (end_status o.end)
   read_large journal out bytes r no_out no_device large =
-      reads_status 7 journal (large_fits (log_bytes o.old journal) large) (large_opens (log_bytes o.old journal) large) out bytes r no_out no_device
+      reads_status 7 journal (large_fits o.old (log_bytes o.old journal) large) (large_opens o.old (log_bytes o.old journal) large) out bytes r no_out no_device
 
   module _ (words : List (List ℕ)) where
     export_refuses : (journal out : List ℕ) (code : Option (List ℕ)) → ReadsJournal journal out (reading.due_of (reading.Export code)) o
@@ -297,7 +297,7 @@ module _ (o : Outcome) (tells : o.old.tells ≡ true) where
     -- the file's holdings behind the journal's records
     module _ (journal out rest : List ℕ) (code : Option (List ℕ)) (ends : Ends words (Holdings journal out rest code) o)
         (s : CountsStayed words (Holdings journal out rest code) (around_of o)) where
-      holdings_status : (due : ℕ) → IsOneFile words → (HasFittingHistory (log_bytes o.old journal) → ⊥) → OpensWith due (log_bytes o.old journal)
+      holdings_status : (due : ℕ) → IsOneFile words → (HasFittingHistory o.old (log_bytes o.old journal) → ⊥) → OpensWith o.old due (log_bytes o.old journal)
           → IsStatus due (end_status o.end)
       holdings_status due one unfit opens =
           let a = ends one.library one.named in
@@ -306,15 +306,15 @@ module _ (o : Outcome) (tells : o.old.tells ≡ true) where
 
       holdings_refuses : RefusesMisfits words (Holdings journal out rest code) o.old (end_status o.end)
       holdings_refuses = record {
-        no_history = λ is. holdings_status 6 is.0 (none_fits (log_bytes o.old journal) is.1) (none_opens (log_bytes o.old journal) is.1);
+        no_history = λ is. holdings_status 6 is.0 (none_fits o.old (log_bytes o.old journal) is.1) (none_opens o.old (log_bytes o.old journal) is.1);
         other_version = λ no. absurd no;
-        limits = λ is. holdings_status 7 is.0 (large_fits (log_bytes o.old journal) is.1) (large_opens (log_bytes o.old journal) is.1);
+        limits = λ is. holdings_status 7 is.0 (large_fits o.old (log_bytes o.old journal) is.1) (large_opens o.old (log_bytes o.old journal) is.1);
       }
 
     -- the same where the journal isn't held
     module _ (journal out rest : List ℕ) (code : Option (List ℕ)) (ends : Ends words (ReadHoldings journal out rest code) o)
         (s : CountsStayed words (ReadHoldings journal out rest code) (around_of o)) where
-      one_status : (due : ℕ) → IsOneFile words → (bytes : List ℕ) → o.old.file journal ≡ Some bytes → (HasFittingHistory bytes → ⊥) → OpensWith due bytes
+      one_status : (due : ℕ) → IsOneFile words → (bytes : List ℕ) → o.old.file journal ≡ Some bytes → (HasFittingHistory o.old bytes → ⊥) → OpensWith o.old due bytes
           → IsStatus due (end_status o.end)
       one_status due one bytes there unfit opens =
           let a = ends one.library one.named in
@@ -323,9 +323,9 @@ module _ (o : Outcome) (tells : o.old.tells ≡ true) where
 
       unheld_refuses : RefusesMisfits words (ReadHoldings journal out rest code) o.old (end_status o.end)
       unheld_refuses = record {
-        no_history = λ is. with_bytes (o.old.file journal) is.1 (λ bytes there no. one_status 6 is.0 bytes there (none_fits bytes no) (none_opens bytes no));
+        no_history = λ is. with_bytes (o.old.file journal) is.1 (λ bytes there no. one_status 6 is.0 bytes there (none_fits o.old bytes no) (none_opens o.old bytes no));
         other_version = λ no. absurd no;
-        limits = λ is. with_bytes (o.old.file journal) is.1 (λ bytes there large. one_status 7 is.0 bytes there (large_fits bytes large) (large_opens bytes large));
+        limits = λ is. with_bytes (o.old.file journal) is.1 (λ bytes there large. one_status 7 is.0 bytes there (large_fits o.old bytes large) (large_opens o.old bytes large));
       }
 
     migrate_refuses : (from into : List ℕ) → Migrates from into o → CountsStayed words (Migrate from into) (around_of o)

@@ -61,11 +61,11 @@ of_results results why is none =
     chosen (any_ends end.DeviceFault results) (any_ends end.Full results) (any_ends end.ReadFault results) (any_ends end.NoMemory results) why is none
 
 module _ (old new : RoomView) (journal : List ℕ) (libraries : List Library) (tells : old.tells ≡ true) (fits : FitsJudged old journal libraries) where
-  history_within : IsWithin journal_limits fits.before
+  history_within : IsWithin (journal_limits old) fits.before
   history_within = record { count = omega (arith, fits.count); size = omega (arith, fits.size) }
 
-  fitting : HasFittingHistory (log_bytes old journal)
-  fitting = fitting_history fits.before (log_bytes old journal) fits.was history_within
+  fitting : HasFittingHistory old (log_bytes old journal)
+  fitting = fitting_history old fits.before (log_bytes old journal) fits.was history_within
 
   never_full : (why : Fault) (p : IsLoadedInPart old new journal libraries why) → any_ends end.Full p.results ≡ true → ⊥
   never_full why p full =
@@ -74,13 +74,13 @@ module _ (old new : RoomView) (journal : List ℕ) (libraries : List Library) (t
       let below : All (λ (e : Entry). e.loader < 0 + length libraries) (p.added ++ marked p.mark) =
       subst (λ n. All (λ (e : Entry). e.loader < n) (p.added ++ marked p.mark)) (omega arith) p.loaded.loaders in
       let both = all_parts (λ (e : Entry). e.loader < 0 + length libraries) p.added (marked p.mark) below in
-      let few = subst (λ es. length es + sum_by length fits.accepted ≤ journal_limits.entries) same fits.count in
-      let small = subst (λ es. entries_size es + sum_by entries_size fits.accepted ≤ journal_limits.bytes) same fits.size in
+      let few = subst (λ es. length es + sum_by length fits.accepted ≤ (journal_limits old).entries) same fits.count in
+      let small = subst (λ es. entries_size es + sum_by entries_size fits.accepted ≤ (journal_limits old).bytes) same fits.size in
       never_crowded old p.before p.added p.mark fits.accepted few small
       (crowded old p.before p.added p.mark 0 libraries fits.accepted fits.refused p.results both.0 both.1 fits.judged p.loaded.files full)))
 
   of_unbegun : (why : Fault) → IsUnbegun old new journal libraries why → Remains why
-  of_unbegun why (Unopened of is so current keeps) = of_opening (log_bytes old journal) of why is fits.version (may_be (log_bytes old journal) of fitting so)
+  of_unbegun why (Unopened of is so current keeps) = of_opening (log_bytes old journal) of why is fits.version (may_be old (log_bytes old journal) of fitting so)
   of_unbegun why (Unbegun before o (inl input) opened closed unread) = subst Remains (sym input) tt
   of_unbegun why (Unbegun before o (inr memory) opened closed unread) = subst Remains (sym memory) tt
 

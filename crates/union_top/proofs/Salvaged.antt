@@ -2,6 +2,8 @@
 use Rattle.std.proofs.Common.{◌≡◌, ◌⊎◌, inl, inr, ℕ, true, List, [], Some, refl, sym, ap, subst, ◌∙◌, arith}
 use Rattle.std.specs.Prelude.{IsSomeAnd}
 use Rattle.marc_types.specs.declared.entry.Entry.{Entry}
+use Rattle.marc_types.specs.declared.entry.Limits.{Limits}
+use Rattle.outside.specs.Room.{RoomView}
 use Rattle.console_lines.specs.Ends.{Outcome, IsAllDone, TellsNoFault, end_status, console_unwritten}
 use Rattle.console_lines.specs.Faults.{fault_status}
 use Rattle.console_lines.specs.declared.end.End.{End}
@@ -35,16 +37,16 @@ salvaged_well (Unwritten Console) kind console told = absurd (console refl)
 salvaged_well (Told why) kind console told = inr (ap Told (told why refl))
 
 -- a log that is fit for a history takes it, where memory and its device allow
-fit_well : (history entries : List Entry) (log : List ℕ) → IsFit journal_limits history entries log → (reason : MigrateFault)
-    → IsUnmigrated journal_limits history log reason → (fault_of_migrating reason ≡ fault.Device → ⊥) → fault_of_migrating reason ≡ fault.Memory
-fit_well history entries log fit migrating.DeviceFault why device = absurd (device refl)
-fit_well history entries log fit (migrating.NotAJournal place) why device = absurd (no_journal log place entries fit.has why)
-fit_well history entries log fit migrating.OldVersion why device = absurd (let both : 1 ≡ 2 = sym why.0 ∙ fit.version in cc)
-fit_well history entries log fit migrating.Full why device =
-    absurd (why.1.2 (subst (IsWithin journal_limits) (reading_once entries why.1.0 log fit.has why.1.1) fit.within.new_within))
-fit_well history entries log fit migrating.NotPrefix why device =
+fit_well : (room : RoomView) (history entries : List Entry) (log : List ℕ) → IsFit (journal_limits room) history entries log → (reason : MigrateFault)
+    → IsUnmigrated (journal_limits room) history log reason → (fault_of_migrating reason ≡ fault.Device → ⊥) → fault_of_migrating reason ≡ fault.Memory
+fit_well room history entries log fit migrating.DeviceFault why device = absurd (device refl)
+fit_well room history entries log fit (migrating.NotAJournal place) why device = absurd (no_journal room log place entries fit.has why)
+fit_well room history entries log fit migrating.OldVersion why device = absurd (let both : 1 ≡ 2 = sym why.0 ∙ fit.version in cc)
+fit_well room history entries log fit migrating.Full why device =
+    absurd (why.1.2 (subst (IsWithin (journal_limits room)) (reading_once entries why.1.0 log fit.has why.1.1) fit.within.new_within))
+fit_well room history entries log fit migrating.NotPrefix why device =
     absurd (why.1.3 (subst (Begins history) (reading_once entries why.1.0 log fit.has why.1.1) fit.begins))
-fit_well history entries log fit migrating.NoMemory why device = refl
+fit_well room history entries log fit migrating.NoMemory why device = refl
 
 module _ (o : Outcome) (journal into : List ℕ) (s : Salvages journal into o) (f : FitsSalvage o.old journal into) (no_input : o.end ≡ Told fault.Input → ⊥)
     (no_device : o.end ≡ Told fault.Device → ⊥) (no_console : o.end ≡ console_unwritten → ⊥) where
@@ -52,7 +54,7 @@ module _ (o : Outcome) (journal into : List ℕ) (s : Salvages journal into o) (
   taken why device (Nothing place is none same) = absurd (f.fit.worth.something place none)
   taken why device (TooMuch is large same) = absurd (large f.fit.worth.within)
   taken why device (NotTaken reason is worth so) =
-      is ∙ fit_well f.all.entries f.fit.before (log_bytes o.old into) f.fit.fit reason so (λ failed. device (is ∙ failed))
+      is ∙ fit_well o.old f.all.entries f.fit.before (log_bytes o.old into) f.fit.fit reason so (λ failed. device (is ∙ failed))
 
   remains : (why : Fault) → o.end ≡ Told why → why ≡ fault.Memory
   remains = by_fault o.end (λ why. why ≡ fault.Memory) no_input refl (λ why is input memory.
@@ -64,9 +66,9 @@ module _ (o : Outcome) (journal into : List ℕ) (s : Salvages journal into o) (
   pub salvages_well : IsAllDone o.end ⊎ (o.end ≡ Told fault.Memory)
   salvages_well = salvaged_well o.end s.ends no_console remains
 
--- no entry is within the limits
-none_within : (entries : List Entry) → entries ≡ [] → IsWithin journal_limits entries
-none_within entries none = subst (IsWithin journal_limits) (sym none) (record { count = omega arith; size = omega arith })
+-- no entry is within any limits
+none_within : (limits : Limits) (entries : List Entry) → entries ≡ [] → IsWithin limits entries
+none_within limits entries none = subst (IsWithin limits) (sym none) (record { count = omega arith; size = omega arith })
 
 untold_status : (end : End) → EndsSalvaging end → (TellsNoFault end → ⊥) → ((why : Fault) → end ≡ Told why → IsStatus 6 (fault_status why))
     → IsStatus 6 (end_status end)
@@ -80,7 +82,7 @@ module _ (o : Outcome) (journal into : List ℕ) (s : Salvages journal into o) (
     (bytes : List ℕ) (there : o.old.file journal ≡ Some bytes) (none : HasNothingSound bytes) where
   not_brought : (why : Fault) → WhyNot o.old o.new none.all into why → IsStatus 6 (fault_status why)
   not_brought why (Nothing place is nothing same) = inl (ap fault_status is)
-  not_brought why (TooMuch is large same) = absurd (large (none_within none.all.entries none.nothing.none))
+  not_brought why (TooMuch is large same) = absurd (large (none_within (journal_limits o.old) none.all.entries none.nothing.none))
   not_brought why (NotTaken reason is worth so) = absurd (worth.something none.place none.nothing)
 
   none_brought : TellsNoFault o.end → ⊥

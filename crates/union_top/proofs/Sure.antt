@@ -4,6 +4,7 @@ use Rattle.std.specs.Prelude.{IsSomeAnd}
 use Rattle.std.specs.List.{sum_by}
 use Rattle.std.proofs.Math.Logic.{∥∥₁_elim}
 use Rattle.marc_types.specs.declared.entry.Entry.{Entry}
+use Rattle.marc_types.specs.Limits.{limits_of}
 use Rattle.outside.specs.Fault.{Rose}
 use Rattle.outside.specs.Room.{IsPromiseKept}
 use Rattle.outside.specs.Sink.{WritesFront}
@@ -133,13 +134,13 @@ module _ (o : Outcome) (promises : (n : List ℕ) → o.new.promise n ≡ o.old.
     sure_pass =
         passes_well o due libraries out ends f
         (λ is.
-        let part : IsPassedInPart due f.library f.alone.bytes o.old o.new out =
-        subst (λ file. IsSomeAnd file (λ bytes. IsPassedInPart due f.library bytes o.old o.new out)) f.alone.there (p.part is f.tells) in
+        let part : IsPassedInPart (limits_of o.old.is_large) due f.library f.alone.bytes o.old o.new out =
+        subst (λ file. IsSomeAnd file (λ bytes. IsPassedInPart (limits_of o.old.is_large) due f.library bytes o.old o.new out)) f.alone.there (p.part is f.tells) in
         out_stayed a promises kept out (due f.alone.bytes part.accepted part.refused)
         (h.output (pass_case part.accepted part.refused part.judged) f.alone.bytes f.alone.there) part.left (p.out_cause is))
         (λ is.
-        let part : IsPassedUntold due f.library f.alone.bytes (o.new.file out) o.told o.now =
-        subst (λ file. IsSomeAnd file (λ bytes. IsPassedUntold due f.library bytes (o.new.file out) o.told o.now)) f.alone.there (p.untold is f.tells) in
+        let part : IsPassedUntold (limits_of o.old.is_large) due f.library f.alone.bytes (o.new.file out) o.told o.now =
+        subst (λ file. IsSomeAnd file (λ bytes. IsPassedUntold (limits_of o.old.is_large) due f.library bytes (o.new.file out) o.told o.now)) f.alone.there (p.untold is f.tells) in
         text_stayed a (results f.library.file part.accepted part.refused) (h.console (pass_case part.accepted part.refused part.judged)) part.console
         (p.console_cause is))
         (λ is. one_stayed a libraries (inputs_stayed a promises kept libraries h.inputs) f.library f.named (p.input is))
@@ -156,7 +157,7 @@ module _ (o : Outcome) (promises : (n : List ℕ) → o.new.promise n ≡ o.old.
       → IsOutputLeft o.old o.new out (due entries))
       → (o.end ≡ out_unwritten → Rose (o.old.out_faults out) (o.new.out_faults out)) → Never o out_unwritten
   no_out due journal out f h left cause is =
-      ∥∥₁_elim f.history ⊥_prop (λ (one : (entries : List Entry) × IsLogOf entries (log_bytes o.old journal) × IsWithin journal_limits entries).
+      ∥∥₁_elim f.history ⊥_prop (λ (one : (entries : List Entry) × IsLogOf entries (log_bytes o.old journal) × IsWithin (journal_limits o.old) entries).
       out_stayed a promises kept out (due one.0) (h.output one.0 ∣ one.1 ∣₁) (left one.0 is f.tells ∣ one.1 ∣₁) (cause is))
 
   sure_read : (journal out : List ℕ) (due : List Entry → List ℕ) → ReadsJournal journal out due o → FitsReading o.old journal
@@ -169,10 +170,10 @@ module _ (o : Outcome) (promises : (n : List ℕ) → o.new.promise n ≡ o.old.
   sure_worklist journal list page code m f h =
       lists_well o journal list page code m f
       (λ is.
-      ∥∥₁_elim f.history ⊥_prop (λ (one : (entries : List Entry) × IsLogOf entries (log_bytes o.old journal) × IsWithin journal_limits entries).
+      ∥∥₁_elim f.history ⊥_prop (λ (one : (entries : List Entry) × IsLogOf entries (log_bytes o.old journal) × IsWithin (journal_limits o.old) entries).
       out_stayed a promises kept list (list_due code one.0) (h.output one.0 ∣ one.1 ∣₁) (m.list_part one.0 is f.tells ∣ one.1 ∣₁) (m.list_cause is)))
       (λ is.
-      ∥∥₁_elim f.history ⊥_prop (λ (one : (entries : List Entry) × IsLogOf entries (log_bytes o.old journal) × IsWithin journal_limits entries).
+      ∥∥₁_elim f.history ⊥_prop (λ (one : (entries : List Entry) × IsLogOf entries (log_bytes o.old journal) × IsWithin (journal_limits o.old) entries).
       out_stayed a promises kept page (page_of one.0) (h.page_output one.0 ∣ one.1 ∣₁) (m.page_part one.0 is f.tells ∣ one.1 ∣₁).1 (m.page_cause is)))
       (no_device journal h.log (m.keeps f.tells) m.device)
 
@@ -209,7 +210,7 @@ module _ (o : Outcome) (promises : (n : List ℕ) → o.new.promise n ≡ o.old.
   sure_look due journal out l f h =
       looks_well o journal out due l f
       (λ is.
-      ∥∥₁_elim f.history ⊥_prop (λ (one : (entries : List Entry) × IsLogOf entries f.bytes × IsWithin journal_limits entries).
+      ∥∥₁_elim f.history ⊥_prop (λ (one : (entries : List Entry) × IsLogOf entries f.bytes × IsWithin (journal_limits o.old) entries).
       out_stayed a promises kept out (due one.0) (h.output f.bytes one.0 f.there ∣ one.1 ∣₁) (l.part f.bytes one.0 is f.tells f.there ∣ one.1 ∣₁) (l.out_cause is)))
       (λ is. in_stayed a promises kept journal h.input (l.input is))
 
@@ -218,10 +219,10 @@ module _ (o : Outcome) (promises : (n : List ℕ) → o.new.promise n ≡ o.old.
   sure_worklist_unheld journal list page code l f h =
       lists_unheld_well o journal list page code l f
       (λ is.
-      ∥∥₁_elim f.history ⊥_prop (λ (one : (entries : List Entry) × IsLogOf entries f.bytes × IsWithin journal_limits entries).
+      ∥∥₁_elim f.history ⊥_prop (λ (one : (entries : List Entry) × IsLogOf entries f.bytes × IsWithin (journal_limits o.old) entries).
       out_stayed a promises kept list (list_due code one.0) (h.output f.bytes one.0 f.there ∣ one.1 ∣₁) (l.list_part f.bytes one.0 is f.tells f.there ∣ one.1 ∣₁) (l.list_cause is)))
       (λ is.
-      ∥∥₁_elim f.history ⊥_prop (λ (one : (entries : List Entry) × IsLogOf entries f.bytes × IsWithin journal_limits entries).
+      ∥∥₁_elim f.history ⊥_prop (λ (one : (entries : List Entry) × IsLogOf entries f.bytes × IsWithin (journal_limits o.old) entries).
       out_stayed a promises kept page (page_of one.0) (h.page_output f.bytes one.0 f.there ∣ one.1 ∣₁) (l.page_part f.bytes one.0 is f.tells f.there ∣ one.1 ∣₁).1 (l.page_cause is)))
       (λ is. in_stayed a promises kept journal h.input (l.input is))
 
@@ -296,7 +297,7 @@ module _ (o : Outcome) (promises : (n : List ℕ) → o.new.promise n ≡ o.old.
   sure_holdings words journal out rest code ends f h =
       let c = ends f.library f.named in
       let found : Finds (LogHas o.old journal) f.library out rest code = λ untold so.
-      ∥∥₁_elim f.reading.history ⊥_prop (λ (one : (entries : List Entry) × IsLogOf entries (log_bytes o.old journal) × IsWithin journal_limits entries).
+      ∥∥₁_elim f.reading.history ⊥_prop (λ (one : (entries : List Entry) × IsLogOf entries (log_bytes o.old journal) × IsWithin (journal_limits o.old) entries).
       so one.0 ∣ one.1 ∣₁ (c.delivers one.0 untold f.reading.tells ∣ one.1 ∣₁)) in
       attaches_well o words journal out rest code ends f
       (never_out (LogHas o.old journal) (libraries_of words) out rest code f.library f.named h.attaching found c.out_cause)
@@ -310,7 +311,7 @@ module _ (o : Outcome) (promises : (n : List ℕ) → o.new.promise n ≡ o.old.
   sure_unheld words journal out rest code ends f h =
       let c = ends f.library f.named in
       let found : Finds (FileHas o.old journal) f.library out rest code = λ untold so.
-      ∥∥₁_elim f.look.history ⊥_prop (λ (one : (entries : List Entry) × IsLogOf entries f.look.bytes × IsWithin journal_limits entries).
+      ∥∥₁_elim f.look.history ⊥_prop (λ (one : (entries : List Entry) × IsLogOf entries f.look.bytes × IsWithin (journal_limits o.old) entries).
       so one.0 (subst (λ file. IsSomeAnd file (HasHistory one.0)) (sym f.look.there) ∣ one.1 ∣₁)
       (c.delivers f.look.bytes one.0 untold f.look.tells f.look.there ∣ one.1 ∣₁)) in
       unheld_well o journal out rest f.library code c
@@ -321,7 +322,7 @@ module _ (o : Outcome) (promises : (n : List ℕ) → o.new.promise n ≡ o.old.
       (never_read (FileHas o.old journal) (libraries_of words) out rest code f.library f.named h.attaching found) (c.input is)) f.look
 
   -- a log into which a history is brought, for which it is fit
-  module _ (into : List ℕ) (history entries : List Entry) (fit : IsFit journal_limits history entries (log_bytes o.old into))
+  module _ (into : List ℕ) (history entries : List Entry) (fit : IsFit (journal_limits o.old) history entries (log_bytes o.old into))
       (holds : HoldsLog o.old into (framed_lengths fit.begins.0)) where
     into_stayed : BringsInto history o.old o.new into → LogStayed a into
     into_stayed (migrates.Unopened u) rose = same_stayed a promises kept into (framed_lengths fit.begins.0) holds u.file rose
@@ -331,7 +332,7 @@ module _ (o : Outcome) (promises : (n : List ℕ) → o.new.promise n ≡ o.old.
         (amid_length _ history entries fit.begins.0 (log_bytes o.old into) (log_bytes o.new into) fit.begins.1 amid) rose)
 
   module _ (from into : List ℕ) (m : Migrates from into o) (f : FitsMigrate o.old from into) (h : IsSureMigrate from into a) where
-    into_holds : (fit : IsFit journal_limits f.history f.entries (log_bytes o.old into)) → HoldsLog o.old into (framed_lengths fit.begins.0)
+    into_holds : (fit : IsFit (journal_limits o.old) f.history f.entries (log_bytes o.old into)) → HoldsLog o.old into (framed_lengths fit.begins.0)
     into_holds fit = h.new_log f.entries fit.begins.0 ∣ fit.has ∣₁ (subst (λ es. HasHistory es (log_bytes o.old from)) (sym fit.begins.1) f.was)
 
     sure_migrate : EndsWell o.end

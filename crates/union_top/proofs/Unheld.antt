@@ -30,10 +30,10 @@ module _ (o : Outcome) (journal out rest : List ℕ) (library : Library) (code :
   unheld_well f =
       by_end o.end no_out (no_rest, ends_so (Unwritten Pages)) no_console (only_memory o journal a.so (ends_so (Told fault.OldVersion)) no_input f)
 
-  pub unheld_status : (status : ℕ) (bytes : List ℕ) → o.old.tells ≡ true → o.old.file journal ≡ Some bytes → (HasFittingHistory bytes → ⊥)
-      → ((reason : OpenFault) → IsUnopened journal_limits bytes reason → (reason ≡ opening.OldVersion → ⊥) → (fault_of_opening reason ≡ fault.Device → ⊥)
+  pub unheld_status : (status : ℕ) (bytes : List ℕ) → o.old.tells ≡ true → o.old.file journal ≡ Some bytes → (HasFittingHistory o.old bytes → ⊥)
+      → ((reason : OpenFault) → IsUnopened (journal_limits o.old) bytes reason → (reason ≡ opening.OldVersion → ⊥) → (fault_of_opening reason ≡ fault.Device → ⊥)
       → IsStatus status (fault_status (fault_of_opening reason))) → IsStatus status (end_status o.end)
   unheld_status status bytes tells there unfit opens =
-      by_told status o.end (λ good. unfit (subst (λ file. IsSomeAnd file HasFittingHistory) there (a.history (all_untold o.end good) tells))) no_out
+      by_told status o.end (λ good. unfit (subst (λ file. IsSomeAnd file (HasFittingHistory o.old)) there (a.history (all_untold o.end good) tells))) no_out
       (no_rest, ends_so (Unwritten Pages)) no_console
       (untaken_status o journal a.so (ends_so (Told fault.OldVersion)) no_input status bytes tells there opens)

@@ -1,8 +1,9 @@
--- Why a log isn't opened that has a history within the limits.
+-- Why a log isn't opened that has a history within a room's limits.
 use Rattle.std.proofs.Common.{◌≡◌, ◌≢◌, ℕ, List, [], ◌∷◌, ◌++◌, Ok, Err, refl, sym, ap, subst, ◌∙◌}
 use Rattle.std.proofs.Math.Logic.{∥∥₁_elim}
 use Rattle.std.proofs.lemmas.List.{map-append}
 use Rattle.marc_types.specs.declared.entry.Entry.{Entry}
+use Rattle.outside.specs.Room.{RoomView}
 use Rattle.console_lines.specs.declared.fault.Fault.TheVariants as fault
 use Rattle.commit_journal.specs.declared.frame.Frame.{Frame}
 use Rattle.commit_journal.specs.Log.{version_of, payloads_of}
@@ -44,18 +45,18 @@ MayBe log opening.OldVersion = version_of log ≡ 1
 MayBe log opening.Full = ⊥
 MayBe log opening.NoMemory = Unit {0}
 
-pub no_journal : (log : List ℕ) (place : ℕ) (entries : List Entry) → IsLogOf entries log → IsUnopened journal_limits log (opening.NotAJournal place) → ⊥
-no_journal log place entries is (NoGate none) = let both : Ok is.frames ≡ Err place = sym is.found ∙ none in cc
-no_journal log place entries is (NoPayload frames found bad) =
+pub no_journal : (room : RoomView) (log : List ℕ) (place : ℕ) (entries : List Entry) → IsLogOf entries log → IsUnopened (journal_limits room) log (opening.NotAJournal place) → ⊥
+no_journal room log place entries is (NoGate none) = let both : Ok is.frames ≡ Err place = sym is.found ∙ none in cc
+no_journal room log place entries is (NoPayload frames found bad) =
     let same : is.frames ≡ frames = cc (is.found, found) in
     no_bad_frame (version_of log) frames place entries (subst (λ fs. IsHistory (version_of log) [] (payloads_of fs) entries) same is.holds) bad
 
-pub may_be : (log : List ℕ) (of : OpenFault) → HasFittingHistory log → IsUnopened journal_limits log of → MayBe log of
-may_be log opening.DeviceFault fits so = tt
-may_be log (opening.NotAJournal place) fits so = ∥∥₁_elim fits ⊥_prop (λ f. no_journal log place f.0 f.1 so)
-may_be log opening.OldVersion fits so = so.0
-may_be log opening.Full fits so = ∥∥₁_elim fits ⊥_prop (λ f. so.2 (subst (IsWithin journal_limits) (reading_once f.0 so.0 log f.1 so.1) f.2))
-may_be log opening.NoMemory fits so = tt
+pub may_be : (room : RoomView) (log : List ℕ) (of : OpenFault) → HasFittingHistory room log → IsUnopened (journal_limits room) log of → MayBe log of
+may_be room log opening.DeviceFault fits so = tt
+may_be room log (opening.NotAJournal place) fits so = ∥∥₁_elim fits ⊥_prop (λ f. no_journal room log place f.0 f.1 so)
+may_be room log opening.OldVersion fits so = so.0
+may_be room log opening.Full fits so = ∥∥₁_elim fits ⊥_prop (λ f. so.2 (subst (IsWithin (journal_limits room)) (reading_once f.0 so.0 log f.1 so.1) f.2))
+may_be room log opening.NoMemory fits so = tt
 
 -- a fault of an opening that remains
 pub opening_well : (log : List ℕ) (reason : OpenFault) → reason ≢ opening.OldVersion → MayBe log reason → (fault_of_opening reason ≡ fault.Device → ⊥)

@@ -2,6 +2,7 @@
 use Rattle.std.proofs.Common.{◌≡◌, ◌⊎◌, inl, inr, ℕ, List, refl, subst}
 use Rattle.std.proofs.Math.Logic.{∥∥₁_elim}
 use Rattle.std.specs.Prelude.{IsSomeAnd}
+use Rattle.outside.specs.Room.{RoomView}
 use Rattle.console_lines.specs.Ends.{Outcome, IsAllDone, console_unwritten}
 use Rattle.console_lines.specs.declared.end.End.{End}
 use Rattle.console_lines.specs.declared.end.End.TheVariants.{Done, Refused, Unwritten, Told}
@@ -19,8 +20,8 @@ use Rattle.union_top.proofs.Unopened.{no_journal}
 use mathlib.Core.HLevel.{⊥_prop}
 
 -- what is told to be no journal is none that is opened
-unopened : (log : List ℕ) (place : ℕ) → IsNoJournal log place → IsUnopened journal_limits log (opening.NotAJournal place)
-unopened log place none = none
+unopened : (room : RoomView) (log : List ℕ) (place : ℕ) → IsNoJournal log place → IsUnopened (journal_limits room) log (opening.NotAJournal place)
+unopened room log place none = none
 
 verified_well : (end : End) → EndsVerifying end → (end ≡ console_unwritten → ⊥) → (end ≡ Told fault.Input → ⊥)
     → ((place : ℕ) → end ≡ Told (fault.NotAJournal place) → ⊥) → IsAllDone end ⊎ (end ≡ Told fault.Memory)
@@ -70,7 +71,7 @@ module _ (o : Outcome) where
   is_journal : (journal : List ℕ) (f : FitsVerify o.old journal) (place : ℕ) → IsSomeAnd (o.old.file journal) (λ log. IsNoJournal log place) → ⊥
   is_journal journal f place some =
       let none : IsNoJournal f.bytes place = subst (λ file. IsSomeAnd file (λ log. IsNoJournal log place)) f.there some in
-      ∥∥₁_elim f.was ⊥_prop (λ history. no_journal f.bytes place f.entries history (unopened f.bytes place none))
+      ∥∥₁_elim f.was ⊥_prop (λ history. no_journal o.old f.bytes place f.entries history (unopened o.old f.bytes place none))
 
   pub verify_well : (journal : List ℕ) → Verifies journal o → FitsVerify o.old journal
       → (o.end ≡ console_unwritten → ⊥) → (o.end ≡ Told fault.Input → ⊥) → IsAllDone o.end ⊎ (o.end ≡ Told fault.Memory)

@@ -1,8 +1,9 @@
--- What fits a command: what the room has before it, of its files, of its journal's history, and of the limits. The rules are this
+-- What fits a command: what the room has before it, of its files, of its journal's history, and of its limits. The rules are this
 -- project's own.
 use Rattle.std.specs.Prelude.{◌≡◌, ℕ, ◌+◌, ◌≤◌, true, List, [], ◌∷◌, length, All, Option, Some, IsSome, IsSomeAnd}
 use Rattle.std.specs.List.{sum_by}
 use Rattle.marc_types.specs.declared.entry.Entry.{Entry}
+use Rattle.marc_types.specs.Limits.{limits_of}
 use Rattle.outside.specs.Room.{RoomView}
 use Rattle.marc_stream.specs.Pieces.{items}
 use Rattle.commit_journal.specs.Log.{version_of}
@@ -23,23 +24,23 @@ use Rattle.checkpoint_commands.specs.PointLogs.{IsPointLog}
 use Rattle.plain_commands.specs.Totals.{IsWithinLimits}
 use Rattle.loading_commands.specs.Merged.{AreJudged}
 
--- the file is there, and its accepted entries are within the limits
+-- the file is there, and its accepted entries are within the room's limits
 pub record FitsAlone (room : RoomView) (library : Library) : Type 0 where
   pub bytes : List ℕ
   pub there : room.file library.file ≡ Some bytes
-  pub within : (accepted : List Entry) (refused : List RefusedItem) → IsJudged library.code 0 (items bytes) accepted refused → IsWithinLimits accepted
+  pub within : (accepted : List Entry) (refused : List RefusedItem) → IsJudged library.code 0 (items bytes) accepted refused → IsWithinLimits (limits_of room.is_large) accepted
 
 -- The journal has a history and is of version 2, as a blank log and none are; the files are there; and the history and all accepted
--- entries are together within the limits, by their number and by their size.
+-- entries are together within the room's limits, by their number and by their size.
 pub record FitsTogether (room : RoomView) (journal : List ℕ) (libraries : List Library) : Type 0 where
   pub before : List Entry
   pub was : HasHistory before (log_bytes room journal)
   pub version : version_of (log_bytes room journal) ≡ 2
   pub there : All (λ library. IsSome (room.file library.file)) libraries
   pub count : (accepted : List (List Entry)) (refused : List (List RefusedItem)) → AreJudged room 0 libraries accepted refused
-      → length before + sum_by length accepted ≤ journal_limits.entries
+      → length before + sum_by length accepted ≤ (journal_limits room).entries
   pub size : (accepted : List (List Entry)) (refused : List (List RefusedItem)) → AreJudged room 0 libraries accepted refused
-      → entries_size before + sum_by entries_size accepted ≤ journal_limits.bytes
+      → entries_size before + sum_by entries_size accepted ≤ (journal_limits room).bytes
 
 -- a pass of one file, in a room that tells its files
 pub record FitsPass (room : RoomView) (libraries : List Library) : Type 0 where
@@ -56,7 +57,7 @@ pub record FitsLoad (room : RoomView) (journal : List ℕ) (libraries : List Lib
 -- an export, a report, a match report or a worklist, in a room that tells its files
 pub record FitsReading (room : RoomView) (journal : List ℕ) : Type 0 where
   pub tells : room.tells ≡ true
-  pub history : HasFittingHistory (log_bytes room journal)
+  pub history : HasFittingHistory room (log_bytes room journal)
 
 -- the writing of a journal's records with the holdings of one file, in a room that tells its files
 pub record FitsHoldings (room : RoomView) (journal : List ℕ) (libraries : List Library) : Type 0 where
@@ -77,12 +78,12 @@ pub record FitsVerifyDigest (room : RoomView) (journal : List ℕ) (count : ℕ)
   pub verify : FitsVerify room journal
   pub own : IsDigestOf count digits verify.bytes
 
--- a look into a journal that isn't held, in a room that tells its files: it is there, with a history within the limits
+-- a look into a journal that isn't held, in a room that tells its files: it is there, with a history within its limits
 pub record FitsLook (room : RoomView) (journal : List ℕ) : Type 0 where
   pub tells : room.tells ≡ true
   pub bytes : List ℕ
   pub there : room.file journal ≡ Some bytes
-  pub history : HasFittingHistory bytes
+  pub history : HasFittingHistory room bytes
 
 -- the same with the holdings of one file
 pub record FitsUnheld (room : RoomView) (journal : List ℕ) (libraries : List Library) : Type 0 where
@@ -98,7 +99,7 @@ pub record FitsMigrate (room : RoomView) (from into : List ℕ) : Type 0 where
   pub entries : List Entry
   pub was : HasHistory history (log_bytes room from)
   pub version : version_of (log_bytes room from) ≡ 1
-  pub fits : ∥ IsFit journal_limits history entries (log_bytes room into) ∥₁
+  pub fits : ∥ IsFit (journal_limits room) history entries (log_bytes room into) ∥₁
 
 -- the bringing of what is sound of a damaged journal into another one, in a room that tells its files: the damaged one is there, with
 -- something sound, within the limits, and the new one, which may be blank or none, is fit for it

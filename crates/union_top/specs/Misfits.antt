@@ -1,6 +1,7 @@
 -- Which journals a command refuses, and with which status. The rules are this project's own.
 use Rattle.std.specs.Prelude.{◌≡◌, ◌⊎◌, ℕ, List, [], ◌∷◌, ◌++◌, Option, IsSomeAnd}
 use Rattle.marc_types.specs.declared.entry.Entry.{Entry}
+use Rattle.marc_types.specs.declared.entry.Limits.{Limits}
 use Rattle.outside.specs.Room.{RoomView}
 use Rattle.commit_journal.specs.Log.{version_of}
 use Rattle.command_words.specs.declared.library.Library.{Library}
@@ -31,21 +32,21 @@ pub record IsOfVersion (version : ℕ) (log : List ℕ) : Type 0 where
   pub has : HasHistory entries log
   pub version_is : version_of log ≡ version
 
--- it has one, which passes the limits
-pub record IsTooLarge (log : List ℕ) : Type 0 where
+-- it has one, which passes these limits
+pub record IsTooLarge (limits : Limits) (log : List ℕ) : Type 0 where
   pub entries : List Entry
   pub has : HasHistory entries log
-  pub passes : IsWithin journal_limits entries → ⊥
+  pub passes : IsWithin limits entries → ⊥
 
--- the journal is of version 2, and its history would pass the limits with the accepted entries of the files of libraries
+-- the journal is of version 2, and its history would pass the room's limits with the accepted entries of the files of libraries
 pub record AreTooLarge (room : RoomView) (journal : List ℕ) (libraries : List Library) : Type 0 where
   pub journal_is : IsOfVersion 2 (log_bytes room journal)
   pub pass : (added : List Entry) (accepted : List (List Entry)) (refused : List (List RefusedItem)) → AreJudged room 0 libraries accepted refused
-      → IsMerged journal_is.entries accepted added → IsWithin journal_limits (journal_is.entries ++ added) → ⊥
+      → IsMerged journal_is.entries accepted added → IsWithin (journal_limits room) (journal_is.entries ++ added) → ⊥
 
--- the log has checkpoints and nothing else, but is of version 1, behind a journal with a history, within the limits
+-- the log has checkpoints and nothing else, but is of version 1, behind a journal with a history, within the room's limits
 pub record IsOldPoint (room : RoomView) (journal point : List ℕ) : Type 0 where
-  pub history : HasFittingHistory (log_bytes room journal)
+  pub history : HasFittingHistory room (log_bytes room journal)
   pub last : Option Point
   pub has : HasLast last (log_bytes room point)
   pub oldest : version_of (log_bytes room point) ≡ 1
@@ -90,7 +91,7 @@ IsOfOtherVersion (Load journal files) room = IsOfVersion 1 (log_bytes room journ
 IsOfOtherVersion (Browse journal out report pages files) room = IsOfVersion 1 (log_bytes room journal)
 IsOfOtherVersion (Headings journal range out) room = ⊥
 IsOfOtherVersion (Worklist journal list page code) room = ⊥
-IsOfOtherVersion (Migrate from into) room = IsOfVersion 2 (log_bytes room from) × HasFittingHistory (log_bytes room from)
+IsOfOtherVersion (Migrate from into) room = IsOfVersion 2 (log_bytes room from) × HasFittingHistory room (log_bytes room from)
 IsOfOtherVersion (Checkpoint journal point) room = IsOldPoint room journal point
 IsOfOtherVersion (Quick journal point out) room = IsOldPoint room journal point
 IsOfOtherVersion (Export journal out code) room = ⊥
@@ -111,30 +112,30 @@ IsOfOtherVersion (RefusedOf out) room = ⊥
 IsOfOtherVersion (Help topic) room = ⊥
 IsOfOtherVersion Version room = ⊥
 
--- its history passes the limits, or would with that of the files
+-- its history passes the room's limits, or would with that of the files
 abbrev pub PassesLimits : List (List ℕ) → Command → RoomView → Type 0
 PassesLimits words (Run journal out report files) room = AreTooLarge room journal (libraries_of words)
 PassesLimits words (Load journal files) room = AreTooLarge room journal (libraries_of words)
 PassesLimits words (Browse journal out report pages files) room = AreTooLarge room journal (libraries_of words)
-PassesLimits words (Export journal out code) room = IsTooLarge (log_bytes room journal)
-PassesLimits words (Report journal out) room = IsTooLarge (log_bytes room journal)
-PassesLimits words (VerifyPoint journal point) room = IsSomeAnd (room.file journal) IsTooLarge
-PassesLimits words (Matches journal out) room = IsTooLarge (log_bytes room journal)
-PassesLimits words (Holdings journal out rest code) room = IsOneFile words × IsTooLarge (log_bytes room journal)
-PassesLimits words (Headings journal range out) room = IsTooLarge (log_bytes room journal)
-PassesLimits words (Worklist journal list page code) room = IsTooLarge (log_bytes room journal)
-PassesLimits words (Migrate from into) room = IsTooLarge (log_bytes room from)
-PassesLimits words (Checkpoint journal point) room = IsTooLarge (log_bytes room journal)
-PassesLimits words (Quick journal point out) room = IsTooLarge (log_bytes room journal)
+PassesLimits words (Export journal out code) room = IsTooLarge (journal_limits room) (log_bytes room journal)
+PassesLimits words (Report journal out) room = IsTooLarge (journal_limits room) (log_bytes room journal)
+PassesLimits words (VerifyPoint journal point) room = IsSomeAnd (room.file journal) (IsTooLarge (journal_limits room))
+PassesLimits words (Matches journal out) room = IsTooLarge (journal_limits room) (log_bytes room journal)
+PassesLimits words (Holdings journal out rest code) room = IsOneFile words × IsTooLarge (journal_limits room) (log_bytes room journal)
+PassesLimits words (Headings journal range out) room = IsTooLarge (journal_limits room) (log_bytes room journal)
+PassesLimits words (Worklist journal list page code) room = IsTooLarge (journal_limits room) (log_bytes room journal)
+PassesLimits words (Migrate from into) room = IsTooLarge (journal_limits room) (log_bytes room from)
+PassesLimits words (Checkpoint journal point) room = IsTooLarge (journal_limits room) (log_bytes room journal)
+PassesLimits words (Quick journal point out) room = IsTooLarge (journal_limits room) (log_bytes room journal)
 PassesLimits words (Pass out) room = ⊥
 PassesLimits words (Make seed count out) room = ⊥
 PassesLimits words (Verify journal) room = ⊥
 PassesLimits words (VerifyDigest journal count digest) room = ⊥
 PassesLimits words (SalvageOf journal into) room = ⊥
-PassesLimits words (QuickReport journal point out report) room = IsTooLarge (log_bytes room journal)
-PassesLimits words (Read look journal out) room = IsSomeAnd (room.file journal) IsTooLarge
-PassesLimits words (ReadHoldings journal out rest code) room = IsOneFile words × IsSomeAnd (room.file journal) IsTooLarge
-PassesLimits words (ReadWorklist journal list page code) room = IsSomeAnd (room.file journal) IsTooLarge
+PassesLimits words (QuickReport journal point out report) room = IsTooLarge (journal_limits room) (log_bytes room journal)
+PassesLimits words (Read look journal out) room = IsSomeAnd (room.file journal) (IsTooLarge (journal_limits room))
+PassesLimits words (ReadHoldings journal out rest code) room = IsOneFile words × IsSomeAnd (room.file journal) (IsTooLarge (journal_limits room))
+PassesLimits words (ReadWorklist journal list page code) room = IsSomeAnd (room.file journal) (IsTooLarge (journal_limits room))
 PassesLimits words (RefusedOf out) room = ⊥
 PassesLimits words (Help topic) room = ⊥
 PassesLimits words Version room = ⊥

@@ -14,7 +14,7 @@ use Rattle.file_entries.specs.declared.refused.RefusedItem.{RefusedItem}
 use Rattle.entry_record.specs.History.{IsMerged}
 use Rattle.durable_catalogue.specs.Images.{framed_lengths}
 use Rattle.durable_catalogue.specs.Logs.{HasHistory}
-use Rattle.journal_files.specs.Journals.{log_bytes}
+use Rattle.journal_files.specs.Journals.{journal_limits, log_bytes}
 use Rattle.archive_commands.specs.Reads as reads
 use Rattle.plain_commands.specs.Making.{workload_line}
 use Rattle.plain_commands.specs.Passing.{FileDue, results, export_due}
@@ -161,7 +161,7 @@ pub record IsSureVerifyPoint (journal point : List ℕ) (a : Around) : Type 0 wh
   pub input : a.old.promise journal ≡ ReadsAlways
   pub point_input : a.old.promise point ≡ ReadsAlways
   pub console : (bytes point_bytes : List ℕ) (held count : ℕ) → a.old.file journal ≡ Some bytes → a.old.file point ≡ Some point_bytes
-      → AreOwn bytes point_bytes held count → HoldsText a (resumed_line held count)
+      → AreOwn (journal_limits a.old) bytes point_bytes held count → HoldsText a (resumed_line held count)
 
 -- the journal is an input, and the console is told the digest of its first so many entries
 pub record IsSureVerifyDigest (journal : List ℕ) (count : ℕ) (digits : List ℕ) (a : Around) : Type 0 where

@@ -1,7 +1,7 @@
 //! Some words, carried out in three calls: `begin` and `end` have the room, and `load` between them, which may wait, has none.
 ghost use Rattle.std.specs.Prelude.{◌≡◌, ◌↔◌, ◌⊎◌, ◌∷◌, ℕ, ◌≤◌, List, Some, None, [], true, IfOk, IfErr};
 ghost use Rattle.outside.specs.Room.{SameBut};
-ghost use Rattle.command_words.specs.Command.{AreNames, Command, command_of, names_of};
+ghost use Rattle.command_words.specs.Command.{AreNames, Command, command_of, is_large, names_of};
 ghost use Rattle.command_words.specs.Asked.{AsksFor, IsUnasked};
 ghost use Rattle.command_words.specs.declared.asked.Request.{Request};
 ghost use Rattle.console_lines.specs.Ends.{outcome};
@@ -121,6 +121,9 @@ pub fn begin<'a, R: Room>(
 ) -> Begun<'a, R>
     requires closed { (name : List ℕ) → (R.seen room.old).open_as name ≡ None }
 
+    // The room has the limits that the words ask for.
+    requires large { (R.seen room.old).is_large ≡ is_large words.now }
+
     // It is what `request` answers to the words.
     requires asked { IfOk asked (AsksFor words.now) }
     requires unasked { IfErr asked (λ why. IsUnasked why (command_of words.now)) }
@@ -207,6 +210,7 @@ fn carry_through<H: Threads + Wait + Sync, R: Room, G: Gate + Sync>(
     gate: &G,
 ) -> u8
     requires closed { (name : List ℕ) → (R.seen room.old).open_as name ≡ None }
+    requires large { (R.seen room.old).is_large ≡ is_large words.now }
     ensures closed { (name : List ℕ) → (R.seen room.new).open_as name ≡ None }
     ensures carried { AreCarriedOut words.now result
         (around R.seen R.Out.written R.Out.faults room.old room.new console.old console.new)
@@ -238,6 +242,9 @@ pub fn run<H: Threads + Wait + Sync, R: Room, G: Gate + Sync>(
     gate: &G,
 ) -> u8
     requires closed { (name : List ℕ) → (R.seen room.old).open_as name ≡ None }
+
+    // The room has the limits that the words ask for: with `large` before them those of a large catalogue, and else the plain ones.
+    requires large { (R.seen room.old).is_large ≡ is_large words.now }
     ensures closed { (name : List ℕ) → (R.seen room.new).open_as name ≡ None }
 
     // Words that are no command change nothing, and the console is told so.

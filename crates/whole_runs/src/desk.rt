@@ -4,7 +4,7 @@ ghost use Rattle.outside_mem.specs.Room.{room_view};
 
 use crate::damage::damage;
 use crate::failing::fail_each;
-use crate::room::{empty_room, with_fault, with_file, with_shut};
+use crate::room::{empty_room, take_limits, with_fault, with_file, with_shut};
 use crate::shown::{last_page, print_all, print_number, shown};
 use crate::step::Step;
 use crate::turns::{Doorkeeper, Turns};
@@ -102,6 +102,7 @@ pub fn answer<H: Threads + Wait + Sync>(
     requires { (name : List ℕ) → (room_view room.old).open_as name ≡ None }
     ensures { (name : List ℕ) → (room_view room.new).open_as name ≡ None }
 {
+    take_limits(room, words);
     match begin(alloc, words, request(alloc, words), room, console) {
         Begun::Ended(status) => status,
         Begun::Loading(loading) => {

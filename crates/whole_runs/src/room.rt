@@ -1,7 +1,9 @@
 //! A room in which no name is open: what is put into it, and what is let fail.
 ghost use Rattle.std.specs.Prelude.{◌≡◌, ℕ, List, None, IfOk};
+ghost use Rattle.command_words.specs.Command.{is_large};
 ghost use Rattle.outside_mem.specs.Room.{room_view};
 
+use command_words::{Words, is_large};
 use outside::NoMemory;
 use outside_mem::MemRoom;
 use std::alloc::Global;
@@ -44,4 +46,13 @@ pub fn with_shut(room: MemRoom, name: &str) -> Result<MemRoom, NoMemory>
     let mut room = room;
     room.fail_opening(name)?;
     Ok(room)
+}
+
+/// Gives a room the limits that the command of some words takes, those of a large catalogue or not.
+pub fn take_limits(room: &mut MemRoom, words: &Words)
+    requires { (name : List ℕ) → (room_view room.old).open_as name ≡ None }
+    ensures closed { (name : List ℕ) → (room_view room.new).open_as name ≡ None }
+    ensures large { (room_view room.new).is_large ≡ is_large words.now }
+{
+    room.set_large(is_large(words));
 }

@@ -41,7 +41,7 @@ module _ (journal list page : List ℕ) (code : Option (List ℕ)) (o : Outcome)
   -- a fault was told, of a journal that was not opened or where memory ran out behind that
   listed_fault : (reason : OpenFault) → o.end ≡ Told (fault_of_opening reason) → IsTold (fault_of_opening reason) o
       → SameBut o.old o.new (journal ∷ list ∷ []) → IsUntouched o.old o.new list → reason ≢ opening.OldVersion
-      → (o.old.tells ≡ true → IsUnopened journal_limits (log_bytes o.old journal) reason)
+      → (o.old.tells ≡ true → IsUnopened (journal_limits o.old) (log_bytes o.old journal) reason)
       → (o.old.tells ≡ true → KeepsHistory (reason ≡ opening.DeviceFault) o.old o.new journal)
       → (o.old.tells ≡ true → reason ≢ opening.DeviceFault → reason ≢ opening.NoMemory → log_bytes o.new journal ≡ log_bytes o.old journal)
       → (reason ≡ opening.DeviceFault → Rose (o.old.log_faults journal) (o.new.log_faults journal)) → MakesWorklist journal list page code o
@@ -71,7 +71,7 @@ module _ (journal list page : List ℕ) (code : Option (List ℕ)) (o : Outcome)
   -- the journal was not opened
   pub listed_unopened : (reason : OpenFault) (fault : Fault) → journal ≢ list → fault ≡ fault_of_opening reason → o.end ≡ Told fault → IsTold fault o
       → SameBut o.old o.new (journal ∷ []) → reason ≢ opening.OldVersion
-      → (o.old.tells ≡ true → IsUnopened journal_limits (log_bytes o.old journal) reason)
+      → (o.old.tells ≡ true → IsUnopened (journal_limits o.old) (log_bytes o.old journal) reason)
       → (o.old.tells ≡ true → KeepsHistory (reason ≡ opening.DeviceFault) o.old o.new journal)
       → (o.old.tells ≡ true → reason ≢ opening.DeviceFault → log_bytes o.new journal ≡ log_bytes o.old journal)
       → (reason ≡ opening.DeviceFault → Rose (o.old.log_faults journal) (o.new.log_faults journal)) → MakesWorklist journal list page code o
@@ -84,11 +84,11 @@ module _ (journal list page : List ℕ) (code : Option (List ℕ)) (o : Outcome)
     pub keeps : (failed : Type 0) → o.old.tells ≡ true → KeepsHistory failed o.old o.new journal
     pub durable : o.old.tells ≡ true → IsDurable o.new journal
     pub has : o.old.tells ≡ true → HasHistory history (log_bytes o.old journal)
-    pub within : IsWithin journal_limits history
+    pub within : IsWithin (journal_limits o.old) history
 
   pub was_listed : (written : RoomView) (disk : DiskView) (history : List Entry) → (o.old.tells ≡ true → written.tells ≡ true)
       → (written.tells ≡ true → IsClosedDisk disk o.new journal)
-      → (o.old.tells ≡ true → HasHistory history (log_bytes o.old journal)) → IsWithin journal_limits history
+      → (o.old.tells ≡ true → HasHistory history (log_bytes o.old journal)) → IsWithin (journal_limits o.old) history
       → (o.old.tells ≡ true → KeepsLog (log_bytes o.old journal) disk) → WasListed history
   was_listed written disk history tells_then log has within kept = record {
     keeps = λ failed tells. closed_keeps o.old o.new journal disk (log (tells_then tells)) failed (kept tells);
@@ -119,7 +119,7 @@ module _ (journal list page : List ℕ) (code : Option (List ℕ)) (o : Outcome)
       device = λ also. absurd (told_not_done o.end Device also is);
       list_cause = λ also. absurd (done_not_unwritten o.end Out is also);
       page_cause = λ also. absurd (done_not_unwritten o.end Side is also);
-      history = λ untold tells. fitting_history history (log_bytes o.old journal) (r.has tells) r.within;
+      history = λ untold tells. fitting_history o.old history (log_bytes o.old journal) (r.has tells) r.within;
       durable = λ untold. r.durable;
       whole = λ entries also tells has. record {
         whole = list_of_any (λ due. o.new.file list ≡ Some due) entries tells has (are tells).whole;
@@ -145,7 +145,7 @@ module _ (journal list page : List ℕ) (code : Option (List ℕ)) (o : Outcome)
           device = λ also. absurd (told_not_unwritten o.end Device Out also is);
           list_cause = λ also. up;
           page_cause = λ also. let no : Out ≡ Side = unwritten_once o.end Out Side is also in cc;
-          history = λ untold tells. fitting_history history (log_bytes o.old journal) (r.has tells) r.within;
+          history = λ untold tells. fitting_history o.old history (log_bytes o.old journal) (r.has tells) r.within;
           durable = λ untold. r.durable;
           whole = λ entries also. absurd (done_not_unwritten o.end Out also is);
           list_part = λ entries also tells has. list_of_any (IsOutputLeft o.old o.new list) entries tells has (left tells);
@@ -164,7 +164,7 @@ module _ (journal list page : List ℕ) (code : Option (List ℕ)) (o : Outcome)
           device = λ also. absurd (told_not_unwritten o.end Device Side also is);
           list_cause = λ also. let no : Side ≡ Out = unwritten_once o.end Side Out is also in cc;
           page_cause = λ also. up;
-          history = λ untold tells. fitting_history history (log_bytes o.old journal) (r.has tells) r.within;
+          history = λ untold tells. fitting_history o.old history (log_bytes o.old journal) (r.has tells) r.within;
           durable = λ untold. r.durable;
           whole = λ entries also. absurd (done_not_unwritten o.end Side also is);
           list_part = λ entries also. let no : Side ≡ Out = unwritten_once o.end Side Out is also in cc;

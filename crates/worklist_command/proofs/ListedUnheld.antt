@@ -2,6 +2,7 @@
 use Rattle.std.proofs.Common.{◌≡◌, ◌≢◌, ◌∙◌, ℕ, true, List, [], ◌∷◌, Option, Some, Result, Ok, Err, OnOk, refl, sym, subst}
 use Rattle.std.specs.Prelude.{IsSomeAnd}
 use Rattle.marc_types.specs.declared.entry.Entry.{Entry}
+use Rattle.marc_types.specs.declared.entry.Limits.{Limits}
 use Rattle.outside.specs.Fault.{Rose}
 use Rattle.outside.specs.Room.{RoomView, IsUntouched, SameBut}
 use Rattle.outside.proofs.Counts.{rose_since}
@@ -53,14 +54,14 @@ module _ (journal list page : List ℕ) (code : Option (List ℕ)) (o : Outcome)
   -- a fault was told
   unheld_told : (why : Fault) → o.end ≡ Told why → IsTold why o → EndsListingUnheld (Told why) → SameBut o.old o.new (list ∷ []) → IsUntouched o.old o.new list
       → (why ≡ Input → Rose (o.old.in_faults journal) (o.new.in_faults journal))
-      → (why ≢ Input → why ≢ Memory → o.old.tells ≡ true → IsSomeAnd (o.old.file journal) (λ bytes. WhyUntaken bytes why)) → ListsUnheld journal list page code o
+      → (why ≢ Input → why ≢ Memory → o.old.tells ≡ true → IsSomeAnd (o.old.file journal) (λ bytes. WhyUntaken (journal_limits o.old) bytes why)) → ListsUnheld journal list page code o
   unheld_told why is told ends apart same input so = record {
     ends = subst EndsListingUnheld (sym is) ends;
     told = λ other also. subst (λ w. IsTold w o) (told_once o.end why other is also) told;
     untouched = λ other also. (apart, same);
     so = λ other also no_input no_memory tells.
         let once = told_once o.end why other is also in
-        subst (λ w. IsSomeAnd (o.old.file journal) (λ bytes. WhyUntaken bytes w)) once
+        subst (λ w. IsSomeAnd (o.old.file journal) (λ bytes. WhyUntaken (journal_limits o.old) bytes w)) once
         (so (λ e. no_input (sym once ∙ e)) (λ e. no_memory (sym once ∙ e)) tells);
     no_page = λ also. apart;
     silent = λ untold. absurd (never_told o.end why untold is);
@@ -87,17 +88,18 @@ module _ (journal list page : List ℕ) (code : Option (List ℕ)) (o : Outcome)
 
   module _ (bytes : List ℕ) (there : o.old.tells ≡ true → o.old.file journal ≡ Some bytes) where
     -- its bytes are not taken
-    pub unheld_untaken : (reason : OpenFault) (fault : Fault) → fault ≡ fault_of_look reason → o.end ≡ Told fault → IsTold fault o
-        → reason ≢ opening.OldVersion → SameBut o.old o.new [] → IsUnopened journal_limits bytes reason → ListsUnheld journal list page code o
-    unheld_untaken reason fault words is told current stays unopened =
+    pub unheld_untaken : (limits : Limits) (reason : OpenFault) (fault : Fault) → fault ≡ fault_of_look reason → o.end ≡ Told fault → IsTold fault o
+        → reason ≢ opening.OldVersion → SameBut o.old o.new [] → IsUnopened limits bytes reason → limits ≡ journal_limits o.old → ListsUnheld journal list page code o
+    unheld_untaken limits reason fault words is told current stays unopened same_limits =
         unheld_told (fault_of_look reason) (subst (λ f. o.end ≡ Told f) words is) (subst (λ f. IsTold f o) words told) (ends_untaken reason current)
         (same_but_none o.old o.new (list ∷ []) stays) (untouched_same o.old o.new list stays) (λ same. absurd (untaken_not_input reason same))
-        (λ other more tells. subst (λ file. IsSomeAnd file (λ bytes. WhyUntaken bytes (fault_of_look reason))) (sym (there tells))
-        (record { reason = reason; is = refl; so = unopened }))
+        (λ other more tells. subst (λ file. IsSomeAnd file (λ bytes. WhyUntaken (journal_limits o.old) bytes (fault_of_look reason))) (sym (there tells))
+        (record { reason = reason; is = refl; so = subst (λ l. IsUnopened l bytes reason) same_limits unopened }))
 
-    module _ (mid : RoomView) (stays : SameBut o.old mid []) (history : List Entry) (has : HasHistory history bytes) (within : IsWithin journal_limits history) where
-      fits : o.old.tells ≡ true → IsSomeAnd (o.old.file journal) HasFittingHistory
-      fits tells = subst (λ file. IsSomeAnd file HasFittingHistory) (sym (there tells)) (fitting_history history bytes has within)
+    module _ (mid : RoomView) (stays : SameBut o.old mid []) (history : List Entry) (has : HasHistory history bytes)
+        (within : IsWithin (journal_limits o.old) history) where
+      fits : o.old.tells ≡ true → IsSomeAnd (o.old.file journal) (HasFittingHistory o.old)
+      fits tells = subst (λ file. IsSomeAnd file (HasFittingHistory o.old)) (sym (there tells)) (fitting_history o.old history bytes has within)
 
       -- any history of the file is one of the bytes that were read
       had : (others : List ℕ) (entries : List Entry) → o.old.tells ≡ true → o.old.file journal ≡ Some others → HasHistory entries others → HasHistory entries bytes

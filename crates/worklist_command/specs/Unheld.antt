@@ -10,7 +10,7 @@ use Rattle.console_lines.specs.declared.end.End.TheVariants.{Done, Refused, Unwr
 use Rattle.console_lines.specs.declared.end.Unwritten.TheVariants.{Out, Side, Pages, Console}
 use Rattle.console_lines.specs.declared.fault.Fault.{Fault}
 use Rattle.console_lines.specs.declared.fault.Fault.TheVariants.{Usage, Input, Device, NotAJournal, Full, Memory, OldVersion, OtherHistory}
-use Rattle.journal_files.specs.Journals.{HasFittingHistory}
+use Rattle.journal_files.specs.Journals.{journal_limits, HasFittingHistory}
 use Rattle.output_files.specs.Outputs.{AreWritten, IsOutputLeft}
 use Rattle.unheld_journals.specs.Untaken.{WhyUntaken}
 use Rattle.worklist_page.specs.Page.{page_of}
@@ -41,7 +41,7 @@ pub record ListsUnheld (journal list page : List ℕ) (code : Option (List ℕ))
   pub told : (why : Fault) → o.end ≡ Told why → IsTold why o
   pub untouched : (why : Fault) → o.end ≡ Told why → SameBut o.old o.new (list ∷ []) × IsUntouched o.old o.new list
   -- another than of the input is told for its reason
-  pub so : (why : Fault) → o.end ≡ Told why → why ≢ Input → why ≢ Memory → o.old.tells ≡ true → IsSomeAnd (o.old.file journal) (λ bytes. WhyUntaken bytes why)
+  pub so : (why : Fault) → o.end ≡ Told why → why ≢ Input → why ≢ Memory → o.old.tells ≡ true → IsSomeAnd (o.old.file journal) (λ bytes. WhyUntaken (journal_limits o.old) bytes why)
   -- where LIST could not be written nothing but it has changed
   pub no_page : o.end ≡ list_unwritten → SameBut o.old o.new (list ∷ [])
   -- without a fault to tell the console is as it was
@@ -50,8 +50,8 @@ pub record ListsUnheld (journal list page : List ℕ) (code : Option (List ℕ))
   pub input : o.end ≡ Told Input → Rose (o.old.in_faults journal) (o.new.in_faults journal)
   pub list_cause : o.end ≡ list_unwritten → Rose (o.old.out_faults list) (o.new.out_faults list)
   pub page_cause : o.end ≡ page_unwritten → Rose (o.old.out_faults page) (o.new.out_faults page)
-  -- the file was there, with a history within the limits, and both files are what is due of it
-  pub history : TellsNoFault o.end → o.old.tells ≡ true → IsSomeAnd (o.old.file journal) HasFittingHistory
+  -- the file was there, with a history within the room's limits, and both files are what is due of it
+  pub history : TellsNoFault o.end → o.old.tells ≡ true → IsSomeAnd (o.old.file journal) (HasFittingHistory o.old)
   pub whole : (bytes : List ℕ) (entries : List Entry) → o.end ≡ Done → o.old.tells ≡ true → o.old.file journal ≡ Some bytes → HasHistory entries bytes
       → AreWritten list page (list_due code entries) (page_of entries) o.new
   -- one that could not be written is as it was or that

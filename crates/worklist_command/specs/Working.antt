@@ -65,8 +65,8 @@ pub record MakesWorklist (journal list page : List ℕ) (code : Option (List ℕ
   pub device : o.end ≡ Told Device → Rose (o.old.log_faults journal) (o.new.log_faults journal)
   pub list_cause : o.end ≡ list_unwritten → Rose (o.old.out_faults list) (o.new.out_faults list)
   pub page_cause : o.end ≡ page_unwritten → Rose (o.old.out_faults page) (o.new.out_faults page)
-  -- the log has a history within the limits, which is durable, and both files are what is due of it
-  pub history : TellsNoFault o.end → o.old.tells ≡ true → HasFittingHistory (log_bytes o.old journal)
+  -- the log has a history within the room's limits, which is durable, and both files are what is due of it
+  pub history : TellsNoFault o.end → o.old.tells ≡ true → HasFittingHistory o.old (log_bytes o.old journal)
   pub durable : TellsNoFault o.end → o.old.tells ≡ true → IsDurable o.new journal
   pub whole : (entries : List Entry) → o.end ≡ Done → o.old.tells ≡ true → HasHistory entries (log_bytes o.old journal)
       → AreWritten list page (list_due code entries) (page_of entries) o.new

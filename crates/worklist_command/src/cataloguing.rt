@@ -1,13 +1,12 @@
 //! A history, taken entry by entry: its catalogue, and who brought its entries.
 ghost use Rattle.std.specs.Prelude.{◌≡◌, ◌<◌, []};
 ghost use Rattle.durable_catalogue.specs.Loading.{IsBuilt};
-ghost use Rattle.journal_files.specs.Journals.{journal_limits};
 ghost use Rattle.worklist_page.specs.Brought.{brought_by};
 
 use durable_catalogue::Building;
 use entry_record::Prepared;
-use journal_files::{EntryTaker, JOURNAL_LIMITS};
-use marc_types::NoMemory;
+use journal_files::EntryTaker;
+use marc_types::{Limits, NoMemory};
 use std::alloc::Global;
 use std::sync::ledger::{Blank, Ledger};
 use worklist_page::Brought;
@@ -20,19 +19,18 @@ pub(crate) struct CataloguingAndCounting<L: Ledger> {
 }
 
 impl<L: Ledger> CataloguingAndCounting<L> {
-    /// Of no entry.
-    pub(crate) fn new(alloc: Global, blank: Blank) -> CataloguingAndCounting<L>
+    /// Of no entry, with the most that the catalogue takes.
+    pub(crate) fn new(alloc: Global, limits: Limits, blank: Blank) -> CataloguingAndCounting<L>
         requires name { blank.name ≡ L.name }
         requires parts { blank.parts ≡ L.parts }
         requires shared { 0 < blank.parts }
-        ensures limits { result.building.limits ≡ journal_limits }
-        ensures built { IsBuilt journal_limits [] result.building.core }
+        ensures limits { result.building.limits ≡ limits }
+        ensures built { IsBuilt result.building.limits [] result.building.core }
         ensures brought { result.brought ≡ brought_by [] }
     {
-        CataloguingAndCounting {
-            building: Building::new(alloc, JOURNAL_LIMITS, blank),
-            brought: Brought::new(alloc),
-        }
+        let building = Building::new(alloc, limits, blank);
+        let brought = Brought::new(alloc);
+        CataloguingAndCounting { building, brought }
     }
 }
 

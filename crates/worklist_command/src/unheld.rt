@@ -8,6 +8,7 @@ use crate::ending::end_of_both;
 use crate::opening::read_catalogued;
 use crate::writing::write_both;
 use console_lines::{End, tell};
+use journal_files::limits_of;
 use memory_files::read_file;
 use outside::Room;
 use std::alloc::Global;
@@ -31,11 +32,12 @@ pub fn list_unheld<R: Room>(
     ensures ends { ListsUnheld journal.now list.now page.now (option_copied code.entry)
         (outcome R.seen R.Out.written R.Out.faults room.old room.new console.old console.new result) }
 {
+    let limits = limits_of(room);
     let bytes = match read_file(alloc, room, journal) {
         Ok(bytes) => bytes,
         Err(fault) => return tell(console, fault_of_reading(fault)),
     };
-    let catalogued = match read_catalogued(alloc, bytes) {
+    let catalogued = match read_catalogued(alloc, limits, bytes) {
         Ok(catalogued) => catalogued,
         Err(fault) => return tell(console, fault_of_look(fault)),
     };

@@ -1,5 +1,5 @@
 ghost use Rattle.std.specs.Prelude.{◌≡◌, ◌≤◌, IfOk, OnErr, IfSome, IsTrue, length};
-ghost use Rattle.marc_types.specs.Limits.{most_entries};
+ghost use Rattle.marc_types.specs.Limits.{most_made};
 ghost use Rattle.iso2709_record.specs.Written.{fits};
 ghost use Rattle.workload.specs.Workload.{workload, GivesNext};
 
@@ -35,7 +35,7 @@ impl Maker {
     /// A maker of all records of a workload of at most 1,048,576.
     #[tactic(auto, using(crate::proofs::Counts::record_count), unfolding(crate::specs::Workload::workload))]
     pub fn new(seed: u64, count: u64) -> Maker
-        requires { count ≤ most_entries }
+        requires { count ≤ most_made }
         ensures all { result ≡ workload seed count }
         ensures many { length result ≡ count }
     {

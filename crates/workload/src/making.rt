@@ -1,6 +1,6 @@
 ghost use Rattle.std.specs.Prelude.{◌≡◌, ◌≤◌, is_some, OnOk};
 ghost use Rattle.std.specs.Io.KnownBytes.{Appends};
-ghost use Rattle.marc_types.specs.Limits.{most_entries};
+ghost use Rattle.marc_types.specs.Limits.{most_made};
 ghost use Rattle.outside.specs.Fault.{HasWriteCause};
 ghost use Rattle.outside.specs.Sink.{WritesFront};
 ghost use Rattle.workload.specs.Workload.{workload_bytes};
@@ -14,7 +14,7 @@ use std::alloc::Global;
 /// or all; want of memory is a fault too.
 #[tactic(auto, using(outside::proofs::Fronts::writing_begun, outside::proofs::Fronts::writing_more, outside::proofs::Fronts::writing_failed, outside::proofs::Fronts::writing_done, outside::proofs::Fronts::writing_stopped), unfolding(crate::specs::Workload::workload_bytes))]
 pub fn make<K: Sink>(alloc: Global, seed: u64, count: u64, out: &mut K) -> Result<(), WriteFault>
-    requires { count ≤ most_entries }
+    requires { count ≤ most_made }
     ensures bytes { OnOk result
         (Appends (K.written out.old) (K.written out.new) (workload_bytes seed count)) }
     ensures front { WritesFront (K.written out.old) (K.written out.new) (workload_bytes seed count) }

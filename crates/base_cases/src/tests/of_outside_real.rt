@@ -64,7 +64,7 @@ fn has(rt: &HostRuntime, path: &str, bytes: &[u8]) -> Result<bool, Fail> {
 }
 
 fn source_of(rt: &HostRuntime, path: &str) -> Result<FileSource<File>, Fail> {
-    Ok(FileSource::new(File::open(rt, path)?))
+    Ok(FileSource::new(File::open(rt, path)?, LONGEST_INPUT))
 }
 
 fn faults_of_source(source: &FileSource<File>) -> u64 {
@@ -247,7 +247,7 @@ fn assert_opens_and_closes<R: Room>(rt: &impl Abort, room: &mut R, name: &str)
 #[test]
 fn a_room_opens_and_closes_files(rt: HostRuntime) -> Result<(), Fail> {
     let path = path_of(&rt, "room")?;
-    let mut room = FileRoom::new(rt.clone()?, rt.alloc(), own_number(&rt));
+    let mut room = FileRoom::new(rt.clone()?, rt.alloc(), own_number(&rt), false);
     assert_opens_and_closes(&rt, &mut room, &path);
     remove(&rt, path.as_str())
 }

@@ -4,7 +4,7 @@ use outside_mem::MemSink;
 use program_help::{help, version};
 use std::alloc::Global;
 
-const TOPICS: [(Topic, &str); 22] = [
+const TOPICS: [(Topic, &str); 23] = [
     (Topic::All, "union_cat, a union catalogue"),
     (Topic::Pass, "union_cat pass OUT CODE=FILE\n"),
     (
@@ -36,6 +36,7 @@ const TOPICS: [(Topic, &str); 22] = [
     (Topic::Quick, "union_cat quick JOURNAL POINT OUT\n"),
     (Topic::Reading, "union_cat reading export JOURNAL OUT\n"),
     (Topic::Refused, "union_cat refused OUT CODE=FILE\n"),
+    (Topic::Large, "union_cat large COMMAND ..\n"),
     (Topic::Help, "union_cat help\n"),
     (Topic::Version, "union_cat version\n"),
     (Topic::Statuses, "union_cat help statuses\n"),

@@ -84,6 +84,7 @@ fn topic_text(topic: Topic) -> &'static str {
         Topic::Make => "make",
         Topic::Help => "help",
         Topic::Load => "load",
+        Topic::Large => "large",
         Topic::Statuses => "statuses",
         _ => "another topic",
     }
@@ -281,7 +282,7 @@ fn expect_none(rt: &impl Abort, alloc: Global, lines: &[&str]) -> Result<(), Fai
     Ok(())
 }
 
-const WITH_FILES: [(&str, &str); 10] = [
+const WITH_FILES: [(&str, &str); 13] = [
     ("run j o r ULIB=f0 ULIB=f1", "|run|j|o|r|ULIB|f0|ULIB|f1"),
     ("run j o r A=b=c D=e", "|run|j|o|r|A|b=c|D|e"),
     ("load j A=f B=f", "|load|j|A|f|B|f"),
@@ -298,6 +299,9 @@ const WITH_FILES: [(&str, &str); 10] = [
         "|reading holdings|j|o|r|A|h|D",
     ),
     ("refused o ULIB=f", "|refused|o|ULIB|f"),
+    ("large load j A=f B=g", "|load|j|A|f|B|g"),
+    ("large pass o A=f", "|pass|o|A|f"),
+    ("load large large=large.mrc", "|load|large|large|large.mrc"),
 ];
 
 #[test]
@@ -321,7 +325,7 @@ fn lines_with_digests(rt: HostRuntime) -> Result<(), Fail> {
     expect_asked(&rt, rt.alloc(), &OF_DIGESTS)
 }
 
-const OVER_JOURNALS: [(&str, &str); 20] = [
+const OVER_JOURNALS: [(&str, &str); 22] = [
     ("export j o", "|export|j|o|all"),
     ("export j o DLC", "|export|j|o|DLC"),
     ("report j o", "|report|j|o"),
@@ -348,6 +352,8 @@ const OVER_JOURNALS: [(&str, &str); 20] = [
     ("worklist j l p", "|worklist|j|l|p|all"),
     ("worklist j l p D", "|worklist|j|l|p|D"),
     ("reading worklist j l p", "|reading worklist|j|l|p|all"),
+    ("large export j o D", "|export|j|o|D"),
+    ("large reading report j o", "|reading|report|j|o"),
 ];
 
 #[test]
@@ -355,7 +361,7 @@ fn lines_over_journals(rt: HostRuntime) -> Result<(), Fail> {
     expect_asked(&rt, rt.alloc(), &OVER_JOURNALS)
 }
 
-const OTHERS: [(&str, &str); 15] = [
+const OTHERS: [(&str, &str); 21] = [
     (
         "make 18446744073709551615 1048576 o",
         "|make|18446744073709551615|1048576|o",
@@ -373,8 +379,14 @@ const OTHERS: [(&str, &str); 15] = [
     ("help statuses", "|help|statuses"),
     ("load --help", "|help|load"),
     ("make -h", "|help|make"),
+    ("help large", "|help|large"),
+    ("large --help", "|help|large"),
+    ("large -h", "|help|large"),
+    ("large load --help", "|help|load"),
+    ("large make --help", "|help|make"),
     // a journal's name
     ("verify --help", "|verify|--help"),
+    ("large verify --help", "|verify|--help"),
 ];
 
 #[test]
@@ -431,7 +443,7 @@ fn faulty_lines_with_files(rt: HostRuntime) -> Result<(), Fail> {
     expect_none(&rt, rt.alloc(), &FAULTY_FILES)
 }
 
-const FAULTY: [&str; 68] = [
+const FAULTY: [&str; 78] = [
     "export j",
     "export j j",
     "export j o D(",
@@ -500,6 +512,16 @@ const FAULTY: [&str; 68] = [
     "-h make",
     "version 2",
     "--version version",
+    "large",
+    "large j",
+    "large large export j o",
+    "large make 1 1 o",
+    "large help",
+    "large help load",
+    "large --help load",
+    "large version",
+    "large --version",
+    "reading large export j o",
 ];
 
 #[test]

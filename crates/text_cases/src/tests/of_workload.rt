@@ -1,5 +1,5 @@
 ghost use Rattle.std.specs.Prelude.{◌≤◌};
-ghost use Rattle.marc_types.specs.Limits.{most_entries};
+ghost use Rattle.marc_types.specs.Limits.{most_made};
 
 use super::steps::Short;
 use std::alloc::Global;
@@ -7,7 +7,7 @@ use std::test::Fail;
 use workload::make;
 
 fn made(alloc: Global, seed: u64, count: u64) -> Result<Vec<u8>, Fail>
-    requires { count ≤ most_entries }
+    requires { count ≤ most_made }
 {
     let mut page = Short::new(alloc, u64::MAX);
     make(alloc, seed, count, &mut page)?;
@@ -20,7 +20,7 @@ const FIRST: &[u8; 116] =
 
 /// Whether these are the bytes of a workload of seed 0.
 fn makes(alloc: Global, count: u64, bytes: &[u8]) -> Result<bool, Fail>
-    requires { count ≤ most_entries }
+    requires { count ≤ most_made }
 {
     let page = made(alloc, 0, count)?;
     Ok(page.as_slice() == bytes)
@@ -42,7 +42,7 @@ fn checksum(bytes: &[u8]) -> u32 {
 
 /// The length and the checksum of a workload.
 fn sample(alloc: Global, seed: u64, count: u64) -> Result<(usize, u32), Fail>
-    requires { count ≤ most_entries }
+    requires { count ≤ most_made }
 {
     let page = made(alloc, seed, count)?;
     Ok((page.len(), checksum(page.as_slice())))

@@ -2,7 +2,7 @@
 ghost use Rattle.std.specs.Prelude.{◌≡◌, ℕ, List, None, IfOk};
 ghost use Rattle.outside_sure.specs.SureRoom.{sure_room_view};
 
-use command_words::Words;
+use command_words::{Words, is_large};
 use marc_types::{NoMemory, Text};
 use outside_real::OpenGate;
 use outside_sure::{SureRoom, SureSink};
@@ -97,7 +97,7 @@ fn totals_of(alloc: Global, count: u32) -> Result<String, NoMemory> {
     Ok(text)
 }
 
-/// Whether a command answers with that status, and the console is told that.
+/// Whether a command without `large` answers with that status, and the console is told that.
 fn answers<H: Threads + Wait + Sync>(
     threads: &H,
     alloc: Global,
@@ -109,6 +109,10 @@ fn answers<H: Threads + Wait + Sync>(
     requires { (name : List ℕ) → (sure_room_view room.old).open_as name ≡ None }
     ensures { (name : List ℕ) → (sure_room_view room.new).open_as name ≡ None }
 {
+    // a sure room isn't large
+    if is_large(words) {
+        return Ok(false);
+    }
     let mut console = SureSink::<ROOM>::new(alloc)?;
     let answer = run(threads, alloc, words, room, &mut console, &OpenGate);
     Ok(answer == status && console.bytes() == told.as_bytes())

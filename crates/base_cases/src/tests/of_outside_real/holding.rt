@@ -15,7 +15,7 @@ use std::test::Fail;
 fn room_of(rt: &HostRuntime) -> Result<FileRoom<HostRuntime>, Fail>
     ensures { IfOk result (λ room. (n : List ℕ) → (file_room_view room).open_as n ≡ None) }
 {
-    Ok(FileRoom::new(rt.clone()?, rt.alloc(), own_number(rt)))
+    Ok(FileRoom::new(rt.clone()?, rt.alloc(), own_number(rt), false))
 }
 
 // Whether a log that one room opens can't be opened by another, as a log, as an input, and behind its closing as an output.

@@ -12,7 +12,7 @@ use std::test::Fail;
 fn room_of(rt: &HostRuntime) -> Result<FileRoom<HostRuntime>, Fail>
     ensures { IfOk result (λ room. (n : List ℕ) → (file_room_view room).open_as n ≡ None) }
 {
-    Ok(FileRoom::new(rt.clone()?, rt.alloc(), own_number(rt)))
+    Ok(FileRoom::new(rt.clone()?, rt.alloc(), own_number(rt), false))
 }
 
 // Whether that can't be opened as an output, and has the bytes that it had.

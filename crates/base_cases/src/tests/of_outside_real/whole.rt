@@ -15,7 +15,7 @@ use std::test::Fail;
 fn room_of(rt: &HostRuntime) -> Result<FileRoom<HostRuntime>, Fail>
     ensures { IfOk result (λ room. (n : List ℕ) → (file_room_view room).open_as n ≡ None) }
 {
-    Ok(FileRoom::new(rt.clone()?, rt.alloc(), own_number(rt)))
+    Ok(FileRoom::new(rt.clone()?, rt.alloc(), own_number(rt), false))
 }
 
 // The name of the new file of an output, of the process with those digits.

@@ -1,18 +1,25 @@
-use Rattle.std.proofs.Common.{IfOk, length, sym, ap, subst, ◌∙◌, arith}
-use Rattle.command_words.specs.Asked.{AsksFor}
-use Rattle.command_words.proofs.Commands.{words_are, no_words}
-use Rattle.command_words.proofs.Requests.{asked_by}
+use Rattle.std.proofs.Common.{◌∷◌, length, sym, ap, subst, ◌∙◌}
+use Rattle.command_words.specs.Command.{asked_of}
+use Rattle.command_words.specs.Asked.{IsAskedBy}
+use Rattle.command_words.proofs.Commands.{no_words}
+use Rattle.command_words.proofs.Requests.{asks, unasks}
 use Rattle.command_words.proofs.words.request.Goals as goal
 
 pub returns-in_default-clause-unasked : goal.returns-in_default-clause-unasked
-returns-in_default-clause-unasked c =
-    let same = ap length c.as_slice.ensures in
-    let below = c.in_default.len_below in
-    no_words c.args.words.now (omega (arith, same, below))
+returns-in_default-clause-unasked c = no_words c.args.words.now (sym (ap length c.behind_large.ensures) ∙ c.in_default.ensures.cases)
 
 pub returns-clause-asked : goal.returns-clause-asked
 returns-clause-asked c =
-    let words = c.as_slice.result.now in
-    let are = words_are words c.as_str.result.now _ c.in-len1-up.len_at_least (c.as_str.ensures ∙ c.verb-item.is) in
-    subst (λ these. IfOk c.asked.result (AsksFor these)) (sym are ∙ c.as_slice.ensures)
-    (asked_by c.as_str.result.now _ c.asked.result c.asked.ensures)
+    let rest = c.in-Some.rest.now in
+    let verb = c.as_str.result.now in
+    let behind = sym c.behind_large.ensures ∙ c.in-Some.ensures.cases.0 ∙ ap (λ word. word ∷ rest) (sym c.as_str.ensures) in
+    asks c.args.words.now verb rest behind c.asked.result
+    (subst (λ large. IsAskedBy c.asked.result rest (asked_of large (verb ∷ rest))) c.is_large.ensures c.asked.ensures)
+
+pub returns-clause-unasked : goal.returns-clause-unasked
+returns-clause-unasked c =
+    let rest = c.in-Some.rest.now in
+    let verb = c.as_str.result.now in
+    let behind = sym c.behind_large.ensures ∙ c.in-Some.ensures.cases.0 ∙ ap (λ word. word ∷ rest) (sym c.as_str.ensures) in
+    unasks c.args.words.now verb rest behind c.asked.result
+    (subst (λ large. IsAskedBy c.asked.result rest (asked_of large (verb ∷ rest))) c.is_large.ensures c.asked.ensures)

@@ -111,7 +111,7 @@ returns-clause-ends g c =
     let was = was_opened journal out rest library (option_copied c.args.code) o (seen c.write_both-written.new.room)
     (g.R.Log.Disk.seen c.in-Ok.archive.journal.disk) core.history (λ tells. w.apart.tells ∙ stays.tells ∙ opened.tells ∙ tells) closing.log
     (λ tells. subst (λ (k : Catalogued). HasHistory k.history log) (sym c.core-core.ensures.value) (a.history tells))
-    (subst (λ (k : Catalogued). IsWithin journal_limits k.history) (sym c.core-core.ensures.value) a.within) a.log.kept in
+    (subst (λ (k : Catalogued). IsWithin (journal_limits (seen c.args.room.now)) k.history) (sym c.core-core.ensures.value) a.within) a.log.kept in
     let ready = read_there (λ bytes. IsReady library bytes (state_of core.history) c.in-Ok-prepare.ready) _ _ journal library.file c.requires.file.0 opened
     c.in-Ok-prepare.ensures.ready in
     attaches_ended journal out rest library (option_copied c.args.code) o core.history was c.in-Ok-prepare.ready ready written names.1.1.0 names.2.1.0

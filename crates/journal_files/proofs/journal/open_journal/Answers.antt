@@ -1,7 +1,8 @@
 use Rattle.std.proofs.Common.{◌≡◌, ◌≤◌, true, is_some, max, length, sym, ap, subst, ◌∙◌}
 use Rattle.commit_journal.specs.declared.format.TheConstants.{BLANK_LENGTH}
+use Rattle.entry_record.specs.History.{IsWithin}
 use Rattle.journal_files.specs.Journals.{log_bytes}
-use Rattle.journal_files.proofs.Journals.{opened_length}
+use Rattle.journal_files.proofs.Journals.{opened_length, refused_by_room}
 use Rattle.journal_files.proofs.journal.open_journal.Goals as goal
 
 pub returns-in-Ok-open-clause-catalogue : goal.returns-in-Ok-open-clause-catalogue
@@ -15,9 +16,9 @@ returns-in-Ok-open-clause-catalogue g c =
     record {
       history = λ told. is.history log (was.bytes told);
       version = λ told. is.version log (was.bytes told);
-      within = is.within;
+      within = subst (λ l. IsWithin l d.core.history) c.limits_of-limits.ensures is.within;
       unmarked = is.unmarked;
-      limits = is.limits;
+      limits = is.limits ∙ c.limits_of-limits.ensures;
       run = is.run;
       opened = is.opened;
       length = λ told.
@@ -40,4 +41,5 @@ pub returns-in-Err-clause-refused : goal.returns-in-Err-clause-refused
 returns-in-Err-clause-refused g c =
     let was = c.in-Ok.ensures in
     c.close_refused.ensures.keeps c.args.room.now c.in-Ok.log
-    (record { apart = was.apart; bytes = was.bytes; beginning = was.beginning; fresh = was.fresh }) c.in-Err.ensures.refused
+    (record { apart = was.apart; bytes = was.bytes; beginning = was.beginning; fresh = was.fresh })
+    (refused_by_room _ (g.R.Room.seen c.args.room.now) _ _ _ c.limits_of-limits.ensures c.in-Err.ensures.refused)

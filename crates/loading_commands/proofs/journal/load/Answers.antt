@@ -1,4 +1,7 @@
-use Rattle.std.proofs.Common.{ap, arith}
+use Rattle.std.proofs.Common.{◌≤◌, arith, sym, subst}
+use Rattle.marc_types.specs.declared.entry.Limits.{Limits}
+use Rattle.marc_types.specs.Limits.{most_entries}
+use Rattle.marc_types.proofs.WithinLimits.{limits_within}
 use Rattle.durable_catalogue.specs.Views.{durable_view}
 use Rattle.loading_commands.proofs.LoadedFiles.{inputs_count}
 use Rattle.loading_commands.proofs.journal.load.Goals as goal
@@ -28,8 +31,8 @@ load_files-durable-requires-clause-run g c κs within = c.requires.begun.catalog
 
 pub load_files-durable-requires-clause-limits : goal.load_files-durable-requires-clause-limits
 load_files-durable-requires-clause-limits g c κs within =
-    let same = ap (λ l. l.entries) c.requires.begun.catalogue.limits in
-    omega (arith, same)
+    subst (λ (limits : Limits). limits.entries ≤ most_entries) (sym c.requires.begun.catalogue.limits)
+    (limits_within (g.R.Room.seen c.args.loading.before.value).is_large).0
 
 pub returns-clause-reads : goal.returns-clause-reads
 returns-clause-reads g c =

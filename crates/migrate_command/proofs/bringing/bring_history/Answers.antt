@@ -1,8 +1,10 @@
-use Rattle.std.proofs.Common.{◌≡◌, ◌∙◌, is_some, refl, sym, ap}
+use Rattle.std.proofs.Common.{◌≡◌, ◌∙◌, is_some, refl, sym, ap, subst}
 use Rattle.outside.specs.Room.{bytes_or_none}
+use Rattle.entry_record.specs.History.{IsWithin}
 use Rattle.console_lines.specs.declared.fault.Fault.TheVariants.{Device}
 use Rattle.journal_files.specs.Journals.{log_bytes}
 use Rattle.migrate_command.specs.declared.fault.MigrateFault.TheVariants as migrating
+use Rattle.migrate_command.specs.Migrations.{IsFit, IsUnmigrated}
 use Rattle.migrate_command.specs.Told.{fault_of_migrating}
 use Rattle.journal_files.proofs.Journals.{unopened_keeps, keeps_where}
 use Rattle.migrate_command.proofs.Endings.{migrating_device}
@@ -26,6 +28,10 @@ returns-in_default-clause-fault g c =
       rose = λ device. c.in_default.ensures.cause.failed;
     }
 
+-- its history is within the limits that it is brought in by
+pub migrate-requires : goal.migrate-requires
+migrate-requires g c = subst (λ l. IsWithin l c.args.history.items) (sym c.limits_of-limits.ensures) c.requires.within
+
 -- the history was brought into it
 pub returns-in-Ok-migrate-clause-brings : goal.returns-in-Ok-migrate-clause-brings
 returns-in-Ok-migrate-clause-brings g c was tells is_history =
@@ -34,7 +40,7 @@ returns-in-Ok-migrate-clause-brings g c was tells is_history =
     let open_tells = c.in-Ok.ensures.apart.tells ∙ tells in
     let closing = c.close_log.ensures in
     brings_into c.args.history.items (room c.args.room.now) (room c.close_log.new.self) c.args.into.now (disk c.in-Ok.log) (disk c.in-Ok-migrate.log)
-    (c.in-Ok.ensures.bytes tells) (closing.bytes open_tells) (c.in-Ok-migrate.ensures.crash was is_history)
+    (c.in-Ok.ensures.bytes tells) (closing.bytes open_tells) c.limits_of-limits.result c.limits_of-limits.ensures (c.in-Ok-migrate.ensures.crash was is_history)
     c.in-Ok.ensures.beginning (closing.log open_tells) (closing.moments open_tells)
 
 pub returns-in-Ok-migrate-clause-taken : goal.returns-in-Ok-migrate-clause-taken
@@ -45,10 +51,13 @@ returns-in-Ok-migrate-clause-taken g c =
     let into = c.args.into.now in
     let migrated = c.in-Ok-migrate.ensures.migrated in
     let closing = c.close_log.ensures in record {
-      fit = λ tells. migrated.fit (log_bytes (room c.args.room.now) into) (c.in-Ok.ensures.bytes tells);
+      fit = λ tells.
+          let fit = migrated.fit (log_bytes (room c.args.room.now) into) (c.in-Ok.ensures.bytes tells) in
+          (fit.0, subst (λ l. IsFit l history fit.0 (log_bytes (room c.args.room.now) into)) c.limits_of-limits.ensures fit.1);
       all = λ was tells is_history.
           all_into history (room c.args.room.now) (room c.close_log.new.self) into (disk c.in-Ok.log) (disk c.in-Ok-migrate.log)
-          (c.in-Ok.ensures.bytes tells) (closing.bytes (c.in-Ok.ensures.apart.tells ∙ tells)) (c.in-Ok-migrate.ensures.crash was is_history)
+          (c.in-Ok.ensures.bytes tells) (closing.bytes (c.in-Ok.ensures.apart.tells ∙ tells)) c.limits_of-limits.result c.limits_of-limits.ensures
+          (c.in-Ok-migrate.ensures.crash was is_history)
           (λ bytes is_now. migrated.content was bytes is_history is_now);
       durable = λ was tells is_history.
           images_into history (room c.close_log.new.self) into (disk c.in-Ok-migrate.log)
@@ -64,7 +73,7 @@ returns-in-Err-clause-brings g c was tells is_history =
     let open_tells = c.in-Ok.ensures.apart.tells ∙ tells in
     let closing = c.close_log-in-Err.ensures in
     brings_into c.args.history.items (room c.args.room.now) (room c.close_log-in-Err.new.self) c.args.into.now (disk c.in-Ok.log) (disk c.in-Err.failed.0)
-    (c.in-Ok.ensures.bytes tells) (closing.bytes open_tells) (c.in-Err.ensures.crash was is_history)
+    (c.in-Ok.ensures.bytes tells) (closing.bytes open_tells) c.limits_of-limits.result c.limits_of-limits.ensures (c.in-Err.ensures.crash was is_history)
     c.in-Ok.ensures.beginning (closing.log open_tells) (closing.moments open_tells)
 
 pub returns-in-Err-clause-fault : goal.returns-in-Err-clause-fault
@@ -79,13 +88,16 @@ returns-in-Err-clause-fault g c =
     record {
       reason = failed.1;
       is = told;
-      so = λ tells. c.in-Err.ensures.refused.so (log_bytes (room c.args.room.now) into) (c.in-Ok.ensures.bytes tells);
+      so = λ tells.
+          let log = log_bytes (room c.args.room.now) into in
+          subst (λ l. IsUnmigrated l c.args.history.items log failed.1) c.limits_of-limits.ensures
+          (c.in-Err.ensures.refused.so log (c.in-Ok.ensures.bytes tells));
       alone = λ was tells is_history none.
           let now = room c.close_log-in-Err.new.self in
           let open_tells = c.in-Ok.ensures.apart.tells ∙ tells in
           keeps_where (failed.1 ≡ migrating.DeviceFault) (c.fault_of_migrating.result ≡ Device) (room c.args.room.now) now into (λ device. told ∙ ap fault_of_migrating device)
           (alone_into c.args.history.items (room c.args.room.now) now into (disk c.in-Ok.log) (disk failed.0)
-          (c.in-Ok.ensures.bytes tells) (closing.bytes open_tells) (c.in-Err.ensures.crash was is_history)
+          (c.in-Ok.ensures.bytes tells) (closing.bytes open_tells) c.limits_of-limits.result c.limits_of-limits.ensures (c.in-Err.ensures.crash was is_history)
           c.in-Ok.ensures.beginning (record { file = closing.bytes open_tells; is_log = closing.log open_tells; same = closing.moments open_tells })
           (record { after = law.synced_after failed.0; by_now = law.synced_by_now failed.0; undated = law.undated_content failed.0 })
           failed.1 c.in-Err.ensures.refused.left_alone c.in-Err.ensures.refused.settled none);

@@ -2,7 +2,7 @@ use Rattle.std.proofs.Common.{◌∙◌, [], ◌∷◌, Err, sym, ap}
 use Rattle.outside.proofs.Rooms.{same_but_itself, same_but_first}
 use Rattle.commit_journal.specs.Versions.{number_of}
 use Rattle.outside.proofs.Closings.{closed_opened, apart_over, closed_over}
-use Rattle.migrate_command.proofs.Over.{over_unopened, over_either}
+use Rattle.migrate_command.proofs.Over.{within_still, over_unopened, over_either}
 use Rattle.migrate_command.proofs.bringing.bring_over.Goals as goal
 
 -- the old log was not opened
@@ -26,7 +26,14 @@ returns-in-Err-clause-over g c =
     c.open_history.ensures.apart c.in-Err.fault (Err c.fault_of_opening.result) (ap (λ f. Err f) c.fault_of_opening.ensures)
     because.current because.refused.so because.refused.keeps because.refused.cause
 
--- it was, and its history was brought over or not
+-- it was, and its history is within the limits as they are still
+pub bring_old-brought-requires-clause-within : goal.bring_old-brought-requires-clause-within
+bring_old-brought-requires-clause-within g c _ _ =
+    let taken = c.in-Ok.ensures.taken in
+    within_still (g.R.Room.seen c.args.room.now) (g.R.Room.seen c.open_history.new.room) (c.args.from.now ∷ []) taken.entries c.into_vec.result.items
+    c.open_history.ensures.apart (c.into_vec.ensures ∙ taken.taken) taken.within
+
+-- and was brought over or not
 pub returns-clause-closed : goal.returns-clause-closed
 returns-clause-closed g c =
     closed_over _ _ _ _ _ _ c.open_history.ensures.apart c.bring_old-brought.ensures.apart c.close_history.ensures.apart

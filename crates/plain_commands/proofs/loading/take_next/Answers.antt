@@ -10,7 +10,7 @@ pub returns-in-Err-Full-clause-takes : goal.returns-in-Err-Full-clause-takes
 returns-in-Err-Full-clause-takes g c = record {
   next = c.in-Entry.item;
   gives = c.in-Entry.ensures.gives;
-  full = subst (IsDue (lacks_room c.args.loaded.now.accepted c.in-Entry.item)) c.in-Err-Full.field-0-is c.in-Err-Full.ensures.fault;
+  full = subst (IsDue (lacks_room c.args.loaded.now.limits c.args.loaded.now.accepted c.in-Entry.item)) c.in-Err-Full.field-0-is c.in-Err-Full.ensures.fault;
 }
 
 pub returns-in-Ok-refuse-clause-takes : goal.returns-in-Ok-refuse-clause-takes

@@ -1,6 +1,9 @@
-use Rattle.std.proofs.Common.{◌∙◌}
+use Rattle.std.proofs.Common.{◌∙◌, subst}
+use Rattle.marc_types.specs.declared.entry.Limits.{Limits}
 use Rattle.outside.proofs.Rooms.{same_but_none, same_but_then}
 use Rattle.outside.proofs.Closings.{closed_one}
+use Rattle.plain_commands.specs.Loading.{IsFullIn}
+use Rattle.plain_commands.specs.Passing.{IsReadyIn}
 use Rattle.plain_commands.proofs.Passes.{passes_told, passes_delivered}
 use Rattle.plain_commands.proofs.There.{there_more}
 use Rattle.plain_commands.proofs.passing.pass.Goals as goal
@@ -18,9 +21,13 @@ returns-in-Ok-clause-ends g c =
     let mid = g.R.Room.seen c.prepare.new.room in
     let d = c.deliver_export-end.ensures in
     let stays = c.prepare.ensures.stays in
+    let ready = subst (λ (limits : Limits). IsReadyIn limits (g.R.Room.seen c.args.room.now) c.args.library.now c.in-Ok.ready)
+    c.limits_of-limits.ensures.are c.in-Ok.ensures.ready in
     passes_delivered _ _ _ _ mid stays d.fault d.unwritten
-    (λ tells. there_more _ (λ bytes ready_is. d.delivered _ bytes (stays.tells ∙ tells) ready_is) (c.in-Ok.ensures.ready tells))
+    (λ tells. there_more _ (λ bytes ready_is. d.delivered _ _ bytes (stays.tells ∙ tells) ready_is) (ready tells))
 
 pub returns-in-Err-clause-ends : goal.returns-in-Err-clause-ends
 returns-in-Err-clause-ends g c =
-    passes_told _ _ _ _ c.in-Err.fault c.tell.ensures.end c.tell.ensures.told c.in-Err.ensures.kind c.prepare.ensures.stays c.in-Err.ensures.cause c.in-Err.ensures.full
+    let full = subst (λ (limits : Limits). IsFullIn limits (g.R.Room.seen c.args.room.now) c.args.library.now.file c.args.library.now.code c.in-Err.fault)
+    c.limits_of-limits.ensures.are c.in-Err.ensures.full in
+    passes_told _ _ _ _ c.in-Err.fault c.tell.ensures.end c.tell.ensures.told c.in-Err.ensures.kind c.prepare.ensures.stays c.in-Err.ensures.cause full

@@ -12,5 +12,5 @@ returns-in-Err-last_of-clause-not_own c =
 
 pub returns-clause-not_own : goal.returns-clause-not_own
 returns-clause-not_own c =
-    not_own c.args.journal.items c.args.point.items c.in-Ok.entries c.as_slice.result.now c.in-Ok-last_of.last c.own_of.result c.in-Ok.ensures.history
+    not_own c.args.limits c.args.journal.items c.args.point.items c.in-Ok.entries c.as_slice.result.now c.in-Ok-last_of.last c.own_of.result c.in-Ok.ensures.history
     c.in-Ok.ensures.within c.as_slice.ensures c.in-Ok-last_of.ensures.last c.own_of.ensures.not_own

@@ -9,11 +9,18 @@ use Rattle.catalogue_core.specs.Catalogues.{Catalogued}
 use Rattle.catalogue_rules.specs.Settle.{state_of}
 use Rattle.durable_catalogue.specs.Logs.{HasHistory}
 use Rattle.entry_record.specs.History.{IsWithin}
-use Rattle.journal_files.specs.Journals.{journal_limits}
 use Rattle.outside.proofs.Closings.{closed_but}
 use Rattle.holdings_command.specs.Ready.{IsReady}
-use Rattle.reading_commands.proofs.Attached.{read_apart, stopped_since, unheld_ended, unheld_unready, written_since}
+use Rattle.reading_commands.proofs.Attached.{read_apart, stopped_since, unheld_ended, unheld_unready, unheld_untaken, written_since}
 use Rattle.reading_commands.proofs.unheld.attach_unheld.Goals as goal
+
+-- the journal's bytes are not taken
+pub returns-in-Err-catalogue_of-clause-ends : goal.returns-in-Err-catalogue_of-clause-ends
+returns-in-Err-catalogue_of-clause-ends g c =
+    let because = c.in-Err-catalogue_of.ensures in
+    let t = c.tell-in-Err-catalogue_of.ensures in
+    unheld_untaken _ _ _ _ _ _ c.limits_of-limits.result c.in-Ok.bytes.items c.in-Err-catalogue_of.fault _ c.fault_of_look.ensures t.end t.told because.current
+    c.read_file.ensures.stays c.in-Ok.ensures.bytes because.unopened c.limits_of-limits.ensures
 
 -- the file was not read, or memory ran out over it
 pub returns-in-Err-prepare-clause-ends : goal.returns-in-Err-prepare-clause-ends
@@ -51,7 +58,8 @@ returns-clause-ends g c =
     let o = outcome g.R.Room.seen g.R.Out.Sink.written g.R.Out.Sink.faults c.args.room.now c.write_both-written.new.room c.args.console.now c.end_of_outputs.new.console c.end_of_outputs.result in
     unheld_ended c.args.journal.now out rest library (option_copied c.args.code) o bytes core.history c.in-Ok.ensures.bytes
     (subst (λ (k : Catalogued). HasHistory k.history bytes) (sym c.core-core.ensures.value) a.history)
-    (subst (λ (k : Catalogued). IsWithin journal_limits k.history) (sym c.core-core.ensures.value) a.within) ready
+    (subst (λ l. IsWithin l core.history) c.limits_of-limits.ensures
+    (subst (λ (k : Catalogued). IsWithin c.limits_of-limits.result k.history) (sym c.core-core.ensures.value) a.within)) ready
     (λ tells. subst (λ file. IsSomeAnd file (λ bytes. IsReady library bytes (state_of core.history) ready)) (first.files library.file tt)
     (c.in-Ok-prepare.ensures.ready (first.tells ∙ tells)))
     written c.requires.names.1.0 (on_ok_weaker written (written_since _ _ _ out rest _ _ stays) w.written)

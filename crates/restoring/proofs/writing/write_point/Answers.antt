@@ -1,11 +1,10 @@
 use Rattle.std.proofs.Common.{length, sym, subst}
 use Rattle.outside.proofs.Disks.{same_disk}
 use Rattle.catalogue_rules.specs.Settle.{state_of}
-use Rattle.commit_journal.specs.Journal.{HasAllOrNone}
-use Rattle.commit_journal.proofs.Steps.{keeps_unchanged, leaves_kept, leaves_weaker}
+use Rattle.commit_journal.proofs.Steps.{keeps_unchanged, leaves_kept}
 use Rattle.restoring.specs.Drafts.{IsWritten, rows_in_turn}
 use Rattle.restoring.specs.Writing.{HasPointOrNot}
-use Rattle.restoring.proofs.Appended.{no_point, point_behind, point_or_not, leaves_last}
+use Rattle.restoring.proofs.Appended.{no_point, point_behind, leaves_last, leaves_point}
 use Rattle.restoring.proofs.writing.write_point.Goals as goal
 
 pub returns-in_default-clause-crash : goal.returns-in_default-clause-crash
@@ -28,12 +27,10 @@ pub returns-in-Ok-append_all-clause-crash : goal.returns-in-Ok-append_all-clause
 returns-in-Ok-append_all-clause-crash g c log told =
     let journal = c.args.point.now in
     let history = c.args.core.now.history in
-    let payloads = c.as_slice.result.now in
     let valid = c.in-Ok.ensures.valid in
     let written = subst (IsWritten (length history) (rows_in_turn (state_of history))) (sym c.as_slice.ensures.value) c.in-Ok.ensures.written in
-    leaves_weaker (HasAllOrNone log journal.place payloads) (HasPointOrNot (length history) (state_of history) log) (g.D.Disk.seen journal.disk) (g.D.Disk.seen c.append_all.new.self.disk)
-    (λ image. point_or_not (length history) (state_of history) payloads written valid.authorities_ascend valid.bibliographic_ascend journal.place log image)
-    (c.append_all.ensures.crash log told)
+    leaves_point (length history) (state_of history) c.as_slice.result.now written valid.authorities_ascend valid.bibliographic_ascend journal.place
+    (g.D.Disk.seen journal.disk) (g.D.Disk.seen c.append_all.new.self.disk) log (c.append_all.ensures.crash log told)
 
 pub returns-in-Ok-append_all-clause-appended : goal.returns-in-Ok-append_all-clause-appended
 returns-in-Ok-append_all-clause-appended g c before after told now =
@@ -54,12 +51,10 @@ pub returns-clause-crash : goal.returns-clause-crash
 returns-clause-crash g c log told =
     let journal = c.args.point.now in
     let history = c.args.core.now.history in
-    let payloads = c.as_slice.result.now in
     let valid = c.in-Ok.ensures.valid in
     let written = subst (IsWritten (length history) (rows_in_turn (state_of history))) (sym c.as_slice.ensures.value) c.in-Ok.ensures.written in
-    leaves_weaker (HasAllOrNone log journal.place payloads) (HasPointOrNot (length history) (state_of history) log) (g.D.Disk.seen journal.disk) (g.D.Disk.seen c.append_all.new.self.disk)
-    (λ image. point_or_not (length history) (state_of history) payloads written valid.authorities_ascend valid.bibliographic_ascend journal.place log image)
-    (c.append_all.ensures.crash log told)
+    leaves_point (length history) (state_of history) c.as_slice.result.now written valid.authorities_ascend valid.bibliographic_ascend journal.place
+    (g.D.Disk.seen journal.disk) (g.D.Disk.seen c.append_all.new.self.disk) log (c.append_all.ensures.crash log told)
 
 pub returns-clause-last : goal.returns-clause-last
 returns-clause-last g c log last told has =

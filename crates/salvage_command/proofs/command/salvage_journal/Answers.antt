@@ -1,7 +1,10 @@
 use Rattle.std.proofs.Common.{string_bytes, ◌∙◌, [], ◌∷◌, Err, sym, ap, subst}
 use Rattle.outside.proofs.Rooms.{same_but_none, same_but_then}
 use Rattle.outside.proofs.Closings.{closed_but}
-use Rattle.salvage_command.specs.Finding.{IsFoundSound}
+use Rattle.journal_files.specs.Journals.{journal_limits}
+use Rattle.journal_files.proofs.Journals.{same_limits}
+use Rattle.salvage_command.specs.Finding.{IsFoundSound, IsUnfound}
+use Rattle.salvage_command.proofs.Findings.{found_within}
 use Rattle.salvage_command.proofs.Endings.{salvages_unread, salvages_unfound, salvages_brought, salvages_unbrought}
 use Rattle.salvage_command.proofs.command.salvage_journal.Goals as goal
 
@@ -29,7 +32,13 @@ returns-in-Err-look_over-clause-ends g c =
     let told = c.tell-in-Err-look_over.ensures in
     let why = c.in-Err-look_over.ensures in
     salvages_unfound c.args.journal.now c.args.into.now _ c.in-Err-look_over.fault c.read_file.ensures.stays told.end told.told c.in-Ok.log.items c.in-Ok.ensures.bytes
-    why.unfound why.no_device why.no_input
+    (subst (λ limits. IsUnfound limits c.in-Ok.log.items c.in-Err-look_over.fault) c.limits_of-limits.ensures why.unfound) why.no_device why.no_input
+
+-- it is within the limits, which reading it didn't change
+pub bring_history-requires-clause-within : goal.bring_history-requires-clause-within
+bring_history-requires-clause-within g c _ _ =
+    found_within c.limits_of-limits.result _ c.in-Ok.log.items c.in-Ok-look_over.found.entries.items (string_bytes c.in-Ok-look_over.found.text)
+    (same_limits _ _ [] c.read_file.ensures.stays ∙ sym c.limits_of-limits.ensures) c.in-Ok-look_over.ensures.found
 
 -- it was brought into the new journal
 pub returns-in-Ok-bring_history-clause-closed : goal.returns-in-Ok-bring_history-clause-closed
@@ -46,7 +55,9 @@ returns-in-Ok-bring_history-clause-ends g c =
     let log = c.in-Ok.log.items in
     salvages_brought c.args.journal.now c.args.into.now _ (λ same. c.requires.differ (sym same)) log (g.R.Room.seen c.read_file.new.room) c.as_str.result.now c.in-Ok-look_over.found.entries.items
     c.read_file.ensures.stays c.bring_history.ensures.apart c.in-Ok.ensures.bytes
-    (subst (IsFoundSound log c.in-Ok-look_over.found.entries.items) (sym c.as_str.ensures.value) c.in-Ok-look_over.ensures.found)
+    (subst (IsFoundSound (journal_limits (g.R.Room.seen c.args.room.now)) log c.in-Ok-look_over.found.entries.items) (sym c.as_str.ensures.value)
+    (subst (λ limits. IsFoundSound limits log c.in-Ok-look_over.found.entries.items (string_bytes c.in-Ok-look_over.found.text)) c.limits_of-limits.ensures
+    c.in-Ok-look_over.ensures.found))
     c.bring_history.ensures.brings c.in-Ok-bring_history.ensures.taken c.tell_result.ensures
 
 -- it wasn't
@@ -67,5 +78,6 @@ returns-clause-ends g c =
     let text = string_bytes c.in-Ok-look_over.found.text in
     salvages_unbrought c.args.journal.now c.args.into.now _ (λ same. c.requires.differ (sym same)) log (g.R.Room.seen c.read_file.new.room) text c.in-Ok-look_over.found.entries.items
     c.read_file.ensures.stays c.bring_history.ensures.apart c.in-Ok.ensures.bytes
-    c.in-Ok-look_over.ensures.found c.bring_history.ensures.brings
+    (subst (λ limits. IsFoundSound limits log c.in-Ok-look_over.found.entries.items text) c.limits_of-limits.ensures c.in-Ok-look_over.ensures.found)
+    c.bring_history.ensures.brings
     c.in-Err-bring_history.fault told.end told.told why.fault why.kept why.settled

@@ -7,7 +7,7 @@ use Rattle.salvage_command.proofs.looking.look_over.Goals as goal
 pub returns-in-Some-clause-unfound : goal.returns-in-Some-clause-unfound
 returns-in-Some-clause-unfound c =
     let s = c.in-Ok.sound in
-    found_nothing c.args.log.items c.as_slice.result.now s.entries.items s.damages.items s.end c.as_slice.ensures.value c.in-Ok.ensures.sound c.in-Some.place
+    found_nothing c.args.limits c.args.log.items c.as_slice.result.now s.entries.items s.damages.items s.end c.as_slice.ensures.value c.in-Ok.ensures.sound c.in-Some.place
     (nothing_of c.as_slice-2.result.now s.entries.items c.as_slice-3.result.now s.damages.items s.end c.in-Some.place c.as_slice-2.ensures.value c.as_slice-3.ensures.value
     (c.in-Some.ensures.some s.end))
 
@@ -15,7 +15,7 @@ pub returns-then-not-sound-clause-unfound : goal.returns-then-not-sound-clause-u
 returns-then-not-sound-clause-unfound c =
     let s = c.in-Ok.sound in
     let unfit : s.fits ≡ false = let test = c.if-not-sound.true in grind arith in
-    found_much c.args.log.items c.as_slice.result.now s.entries.items s.damages.items s.end c.as_slice.ensures.value c.in-Ok.ensures.sound s.fits c.in-Ok.ensures.fits unfit
+    found_much c.args.limits c.args.log.items c.as_slice.result.now s.entries.items s.damages.items s.end c.as_slice.ensures.value c.in-Ok.ensures.sound s.fits c.in-Ok.ensures.fits unfit
 
 pub returns-clause-found : goal.returns-clause-found
 returns-clause-found c =
@@ -23,7 +23,7 @@ returns-clause-found c =
     let count = c.len-count.result in
     let left = c.count_behind-left.result in
     let fit : s.fits ≡ true = let test = c.if-not-sound.false in grind arith in
-    found_sound c.args.log.items c.as_slice.result.now s.entries.items s.damages.items s.end c.as_slice.ensures.value c.in-Ok.ensures.sound s.fits c.in-Ok.ensures.fits fit
+    found_sound c.args.limits c.args.log.items c.as_slice.result.now s.entries.items s.damages.items s.end c.as_slice.ensures.value c.in-Ok.ensures.sound s.fits c.in-Ok.ensures.fits fit
     (λ place nothing. c.in_default-nothing_at.ensures.none s.end place
     (nothing_of s.entries.items c.as_slice-2.result.now s.damages.items c.as_slice-3.result.now s.end place (sym c.as_slice-2.ensures.value) (sym c.as_slice-3.ensures.value) nothing))
     (string_bytes c.in-Ok-salvaged_text.text) count left (c.len-count.ensures ∙ s.entries.ok.0)

@@ -5,7 +5,7 @@ use Rattle.marc_types.specs.declared.entry.Entry.{Entry}
 use Rattle.marc_types.specs.declared.entry.Limits.{Limits}
 use Rattle.entry_record.specs.History.{entry_size, entries_size, IsWithin}
 
-size_behind : (entries : List Entry) (e : Entry) → entries_size (entries ++ e ∷ []) ≡ entries_size entries + entry_size e
+pub size_behind : (entries : List Entry) (e : Entry) → entries_size (entries ++ e ∷ []) ≡ entries_size entries + entry_size e
 size_behind entries e =
     let both = sum_by-append entry_size entries (e ∷ []) in
     let first = sum_by-cons entry_size e [] in
