@@ -1,9 +1,9 @@
 #!/usr/bin/env bash
-# A catalogue in parts by an engine next to the same one whole: bench/parts/engines.sh PROGRAM FOLDER [RECORDS [FILES]]
+# A catalogue in parts by an engine next to the same one whole: bench/parts/engines.sh PROGRAM FOLDER [RECORDS [FILES [ENGINE ..]]]
 # RECORDS (8,000,000) of bench/large/make_seeded.py in FILES (4) files, with two files of authorities. It loads them whole: the authorities one file after the
-# other, then all others at once; then in 1, 2 and 4 parts by GNU parallel, and by Slurm where one runs (slurm_here.sh); and in 4 parts once more by each, where a
-# part is killed amid its load. Each joined export has to be that of the whole, and each joined totals its report's. Prints the time on the clock of each.
-# It needs GNU parallel. Ends with 1 where one differs. FOLDER gets some 5 KB a record.
+# other, then all others at once; then in 1, 2 and 4 parts by each ENGINE, `parallel` (GNU parallel) and `slurm`: by both where none is named and a Slurm runs
+# (slurm_here.sh). In 4 parts it does so once more, where a part is killed amid its load. Each joined export has to be that of the whole, and the joined totals
+# its report's. Prints the time on the clock of each. Ends with 1 where one differs. FOLDER gets some 5 KB a record.
 set -u
 here=$(cd "$(dirname "$0")" && pwd)
 program=$(realpath "${1:?the built program}")
@@ -74,7 +74,7 @@ by_parallel() {
 }
 
 by_slurm() {
-    local first each last
+    local first each last left
     read -r first each last < <("$here/slurm.sh" "$1" "$2" UCAT "$authorities" "${others[@]}")
     [ -n "$last" ] || fail "sbatch"
     if [ "${3:-}" = killed ]; then
@@ -83,9 +83,10 @@ by_slurm() {
         scontrol requeue "${each}_1" || fail "requeue"
         touch died
     fi
-    while squeue -h -j "$first,$each,$last" 2>/dev/null | grep -q .; do
+    # a controller that doesn't answer is asked again
+    until left=$(squeue -h -j "$first,$each,$last" -o '%i %r') && [ -z "$left" ]; do
         # what can't begin any more isn't waited for
-        squeue -h -j "$last" -o %r | grep -q NeverSatisfied && scancel "$last"
+        [[ $left != *NeverSatisfied* ]] || scancel "$last"
         sleep 0.2
     done
 }
@@ -112,8 +113,11 @@ make_files
 begun=$(date +%s.%N)
 whole
 echo "whole: $(python3 -c "print(f'{$(date +%s.%N) - $begun:.1f}')") s"
-engines=(parallel)
-! sinfo >/dev/null 2>&1 || engines+=(slurm)
+engines=("${@:5}")
+if [ ${#engines[@]} -eq 0 ]; then
+    engines=(parallel)
+    ! sinfo >/dev/null 2>&1 || engines+=(slurm)
+fi
 for engine in "${engines[@]}"; do
     for count in 1 2 4; do compared "$engine" $count; done
     compared "$engine" 4 killed
