@@ -19,7 +19,7 @@ pub struct Coming<S: Source> {
     source: S,
     // Those that were read and not passed.
     window: Vec<u8>,
-    // How many were passed.
+    // How many were passed or skipped.
     place: u64,
     // It has taken those that were passed.
     hasher: Sha256,
@@ -50,9 +50,10 @@ impl<S: Source> Coming<S> {
         self.window.as_slice()
     }
 
-    /// How many bytes were passed.
+    /// How many bytes were passed or skipped.
     pub fn place(&self) -> u64
-        ensures { result ≡ self.now.place }
+        ensures value { result ≡ self.now.place }
+        ensures room { result + length self.now.window.items < 2 ^ 64 }
     {
         self.place
     }
@@ -100,6 +101,7 @@ impl<S: Source> Coming<S> {
         ensures filled { IfOk result (λ all. all ≡ true → count ≤ length self.new.window.items) }
         ensures end { IfOk result (λ all. all ≡ false → (b : List ℕ) → Comes self.old.window.items (S.left self.old.source) b →
             (b ≡ self.new.window.items) × (length b < count)) }
+        ensures grows { OnOk result (length self.old.window.items ≤ length self.new.window.items) }
         ensures comes { OnOk result ((b : List ℕ) → Comes self.old.window.items (S.left self.old.source) b →
             Comes self.new.window.items (S.left self.new.source) b) }
         ensures place { self.new.place ≡ self.old.place }
@@ -115,8 +117,24 @@ impl<S: Source> Coming<S> {
         Ok(true)
     }
 
-    /// Passes so many bytes of the window.
+    /// Goes on behind so many bytes of the window, which are in no digest.
     #[tactic(auto, using(crate::proofs::Comings::comes_behind))]
+    pub fn skip(&mut self, count: usize)
+        requires { count ≤ length self.old.window.items }
+        ensures window { self.new.window.items ≡ drop count self.old.window.items }
+        ensures place { self.new.place ≡ self.old.place + count }
+        ensures source { self.new.source ≡ self.old.source }
+        ensures hasher { self.new.hasher ≡ self.old.hasher }
+        ensures comes { (b : List ℕ) → Comes self.old.window.items (S.left self.old.source) b →
+            Comes self.new.window.items (S.left self.new.source) (drop count b) }
+    {
+        let kept = self.window.len() - count;
+        self.window.rotate_left(count);
+        self.window.truncate(kept);
+        self.place += count as u64;
+    }
+
+    /// Passes so many bytes of the window.
     pub fn pass(&mut self, count: usize)
         requires { count ≤ length self.old.window.items }
         ensures window { self.new.window.items ≡ drop count self.old.window.items }
@@ -128,20 +146,17 @@ impl<S: Source> Coming<S> {
             Comes self.new.window.items (S.left self.new.source) (drop count b) }
     {
         self.hasher.update(&self.window[..count]);
-        let kept = self.window.len() - count;
-        self.window.rotate_left(count);
-        self.window.truncate(kept);
-        self.place += count as u64;
+        self.skip(count);
     }
 
-    /// Reads all bytes, and answers how many the input had, those that were passed included.
+    /// Reads all bytes, and answers how many the input had, those that were passed or skipped included.
     pub fn total(&mut self) -> Result<u64, ReadFault>
         ensures total { IfOk result (λ total. (b : List ℕ) → Comes self.old.window.items (S.left self.old.source) b →
             total ≡ self.old.place + length b) }
         ensures cause { HasReadCause (S.faults self.old.source) (S.faults self.new.source) result }
     {
         while self.fill(MOST_AT_ONCE)? {
-            self.pass(MOST_AT_ONCE);
+            self.skip(MOST_AT_ONCE);
         }
         Ok(self.place + self.window.len() as u64)
     }

@@ -43,6 +43,16 @@ impl From<AllocError> for ReadFault {
     }
 }
 
+impl From<NoMemory> for ReadFault {
+    ghost use Rattle.journal_verification.specs.declared.fault.ReadFault.{ReadFault};
+
+    ghost from_gives = { λ _ fault. fault ≡ ReadFault.NoMemory };
+
+    fn from(_fault: NoMemory) -> ReadFault {
+        ReadFault::NoMemory
+    }
+}
+
 impl From<ReadFault> for VerifyFault {
     ghost from_gives = { λ read fault. fault ≡ verify_fault read };
 

@@ -1,4 +1,4 @@
--- What is found of a journal's bytes.
+-- What is found of a journal.
 use Rattle.std.proofs.Common.{◌≡◌, ◌∙◌, ℕ, ◌+◌, ◌-◌, Bool, true, false, List, [], ◌∷◌, ◌++◌, length, drop, get_or, true≢false, refl, sym, ap, subst}
 use Rattle.std.specs.Prelude.{IsTrue, ◌↔◌}
 use Rattle.std.specs.List.{flat_map}
@@ -8,38 +8,29 @@ use Rattle.entry_record.specs.History.{IsWithin}
 use Rattle.console_lines.specs.declared.fault.Fault.TheVariants.{NotAJournal, Full}
 use Rattle.sound_frames.specs.declared.damage.Damage.{Damage}
 use Rattle.sound_frames.specs.declared.damage.Reason.TheVariants.{Torn}
-use Rattle.sound_frames.specs.Sound.{IsSoundOf, IsNothing}
+use Rattle.sound_frames.specs.Sound.{IsNothing}
 use Rattle.salvage_command.specs.Told.{damage_line, left_line, count_line}
-use Rattle.salvage_command.specs.Finding.{IsFoundSound, IsUnfound, Nothing, TooMuch}
+use Rattle.salvage_command.specs.Finding.{IsReadOf, IsFoundSound, IsUnfound, Nothing, TooMuch}
 
-module _ (limits : Limits) (log bytes : List ℕ) (entries : List Entry) (damages : List Damage) (end : ℕ) (same : bytes ≡ log)
-    (sound : IsSoundOf bytes (record { entries = entries; damages = damages; end = end })) where
-  here : IsSoundOf log (record { entries = entries; damages = damages; end = end })
-  here = subst (λ l. IsSoundOf l (record { entries = entries; damages = damages; end = end })) same sound
-
+module _ (limits : Limits) (log : List ℕ) (entries : List Entry) (damages : List Damage) (end bytes : ℕ) (r : IsReadOf log entries damages end bytes) where
   pub found_nothing : (place : ℕ) → IsNothing (record { entries = entries; damages = damages; end = end }) place → IsUnfound limits log (NotAJournal place)
-  found_nothing place nothing = Nothing (record { entries = entries; damages = damages; end = end }) place here refl nothing
+  found_nothing place nothing = Nothing (record { entries = entries; damages = damages; end = end }) place r.sound refl nothing
 
   pub found_much : (fits : Bool) → (IsTrue fits ↔ IsWithin limits entries) → fits ≡ false → IsUnfound limits log Full
-  found_much fits told not = TooMuch (record { entries = entries; damages = damages; end = end }) here refl (λ within. true≢false (sym (told.1 within) ∙ not))
+  found_much fits told not = TooMuch (record { entries = entries; damages = damages; end = end }) r.sound refl (λ within. true≢false (sym (told.1 within) ∙ not))
 
   pub found_sound : (fits : Bool) → (IsTrue fits ↔ IsWithin limits entries) → fits ≡ true
       → ((place : ℕ) → IsNothing (record { entries = entries; damages = damages; end = end }) place → ⊥)
-      → (text : List ℕ) (count left : ℕ) → count ≡ length entries → left ≡ length log - (end + 1)
+      → (text : List ℕ) (count left : ℕ) → count ≡ length entries → left ≡ bytes - (end + 1)
       → text ≡ count_line count ++ flat_map damage_line damages ++ left_line left end
       → IsFoundSound limits log entries text
   found_sound fits told fitting something text count left count_is left_is text_is = record {
     all = record { entries = entries; damages = damages; end = end };
-    is = here;
+    is = r.sound;
     entries_are = refl;
     worth = record { something = something; within = told.0 fitting };
-    lines = text_is ∙ (λ i. count_line (count_is i) ++ flat_map damage_line damages ++ left_line (left_is i) end);
+    lines = text_is ∙ (λ i. count_line (count_is i) ++ flat_map damage_line damages ++ left_line ((left_is ∙ ap (λ n. n - (end + 1)) r.counted) i) end);
   }
-
--- what was found is within the limits
-pub found_within : (limits now : Limits) (log : List ℕ) (entries : List Entry) (text : List ℕ) → now ≡ limits → IsFoundSound limits log entries text → IsWithin now entries
-found_within limits now log entries text same found =
-    subst (λ most. IsWithin most entries) (sym same) (subst (IsWithin limits) (sym found.entries_are) found.worth.within)
 
 -- where nothing is sound
 module _ (entries : List Entry) (damages : List Damage) (end place : ℕ) where

@@ -1,12 +1,18 @@
--- What is found of a journal's bytes, before anything is opened to be written.
-use Rattle.std.specs.Prelude.{◌≡◌, ℕ, List}
+-- What is found of a journal, before anything is opened to be written.
+use Rattle.std.specs.Prelude.{◌≡◌, ℕ, List, length}
 use Rattle.marc_types.specs.declared.entry.Entry.{Entry}
 use Rattle.marc_types.specs.declared.entry.Limits.{Limits}
 use Rattle.entry_record.specs.History.{IsWithin}
 use Rattle.console_lines.specs.declared.fault.Fault.{Fault}
 use Rattle.console_lines.specs.declared.fault.Fault.TheVariants.{NotAJournal, Full, Memory}
+use Rattle.sound_frames.specs.declared.damage.Damage.{Damage}
 use Rattle.sound_frames.specs.Sound.{SoundPart, IsSoundOf, IsNothing}
 use Rattle.salvage_command.specs.Told.{salvaged_lines}
+
+-- This is sound of a log, which has so many bytes.
+pub record IsReadOf (log : List ℕ) (entries : List Entry) (damages : List Damage) (end bytes : ℕ) : Type 0 where
+  pub sound : IsSoundOf log (record { entries = entries; damages = damages; end = end })
+  pub counted : bytes ≡ length log
 
 -- something is sound, and it is within the limits
 pub record IsWorth (limits : Limits) (all : SoundPart) : Type 0 where

@@ -3,14 +3,12 @@ ghost use Rattle.console_lines.specs.Ends.{outcome};
 ghost use Rattle.outside.specs.Room.{SameBut};
 ghost use Rattle.salvage_command.specs.Salvages.{Salvages};
 
-use crate::looking::look_over;
+use crate::looking::findings_of;
 use console_lines::{End, tell, tell_result};
 use journal_files::limits_of;
-use memory_files::read_file;
 use migrate_command::bring_history;
 use outside::Room;
 use std::alloc::Global;
-use unheld_journals::fault_of_reading;
 
 /// The command `salvage`: brings what is sound of the journal `journal`, which is only read, into the journal `into`, and tells how many
 /// entries that are, each damage, and how many bytes are left out. It tells why it doesn't, and can be called again after any stop.
@@ -29,11 +27,7 @@ pub fn salvage_journal<R: Room>(
         (outcome R.seen R.Out.written R.Out.faults room.old room.new console.old console.new result) }
 {
     let limits = limits_of(room);
-    let log = match read_file(alloc, room, journal) {
-        Ok(log) => log,
-        Err(fault) => return tell(console, fault_of_reading(fault)),
-    };
-    let found = match look_over(alloc, limits, log) {
+    let found = match findings_of(alloc, limits, room, journal) {
         Ok(found) => found,
         Err(fault) => return tell(console, fault),
     };

@@ -1,9 +1,9 @@
 -- Whole frames, by the bytes that stand behind a gate.
-use Rattle.std.proofs.Common.{◌≡◌, ◌∙◌, ℕ, ◌+◌, ◌-◌, ◌<◌, ◌≤◌, true, false, List, [], ◌∷◌, length, take, drop, get_or, refl, ap, arith, length-drop}
+use Rattle.std.proofs.Common.{◌≡◌, ℕ, ◌+◌, ◌<◌, ◌≤◌, true, false, List, [], ◌∷◌, length, take, drop, get_or, refl, ap, arith, length-drop}
 use Rattle.std.specs.Int.{w32, from_be_bytes}
-use Rattle.std.proofs.lemmas.Grind.{common_steps}
+use Rattle.std.proofs.lemmas.List.{length-take}
 use Rattle.commit_journal.specs.declared.format.TheConstants.{LARGEST_PAYLOAD, LENGTH_BYTES}
-use Rattle.commit_journal.specs.Log.{payload_length, has_frame}
+use Rattle.commit_journal.specs.Log.{payload_length, has_frame, payload_of}
 use Rattle.commit_journal.proofs.Walks.{frame_sizes, frame_whole, frame_missing}
 use Rattle.sound_frames.specs.Sound.{behind_gate, next_gate}
 
@@ -34,27 +34,21 @@ none_great bytes n is great = frame_missing bytes (λ sizes. let most = sizes.mo
 pub none_cut : (bytes : List ℕ) (n : ℕ) → n ≡ payload_length bytes → length bytes ≤ LENGTH_BYTES + n → has_frame bytes ≡ false
 none_cut bytes n is short = frame_missing bytes (λ sizes. let whole = sizes.whole in omega (arith, whole, is, short))
 
-tail_is : (n : ℕ) (log : List ℕ) → take (length log - n) (drop n log) ≡ drop n log
-tail_is n log = let len = length-drop n log in grind (arith, common_steps)
+module _ (log : List ℕ) (place : ℕ) (payload : List ℕ) (has : has_frame (behind_gate log place) ≡ true) (is : payload ≡ payload_of (behind_gate log place)) where
+  sized : length payload ≡ payload_length (behind_gate log place)
+  sized =
+      let whole = (frame_sizes (behind_gate log place) has).whole in
+      let left = length-drop LENGTH_BYTES (behind_gate log place) in
+      let taken = length-take (payload_length (behind_gate log place)) (drop LENGTH_BYTES (behind_gate log place)) in
+      omega (arith, ap (length {A = ℕ}) is, taken, left, whole)
 
--- the bytes behind the gate of a whole frame have a length
-pub long_there : (log : List ℕ) (place : ℕ) → has_frame (behind_gate log place) ≡ true → 4 ≤ length (take (length log - (place + 1)) (drop (place + 1) log))
-long_there log place has =
-    let whole = (frame_sizes (behind_gate log place) has).whole in
-    let len = ap (length {A = ℕ}) (tail_is (place + 1) log) in
-    omega (arith, whole, len)
+  -- where the next gate stands
+  pub next_of : place + 5 + length payload ≡ next_gate log place
+  next_of = let n = sized in omega (arith, n)
 
-length_of : (log : List ℕ) (place n : ℕ) → n ≡ payload_length (take (length log - (place + 1)) (drop (place + 1) log)) → n ≡ payload_length (behind_gate log place)
-length_of log place n is = is ∙ ap payload_length (tail_is (place + 1) log)
-
--- and a gate stands behind it
-pub next_there : (log : List ℕ) (place n : ℕ) → n ≡ payload_length (take (length log - (place + 1)) (drop (place + 1) log)) → has_frame (behind_gate log place) ≡ true
-    → place + 5 + n < length log
-next_there log place n is has =
-    let whole = (frame_sizes (behind_gate log place) has).whole in
-    let len = length-drop (place + 1) log in
-    let named = length_of log place n is in
-    omega (arith, whole, len, named)
-
-pub next_value : (log : List ℕ) (place n : ℕ) → n ≡ payload_length (take (length log - (place + 1)) (drop (place + 1) log)) → place + 5 + n ≡ next_gate log place
-next_value log place n is = let named = length_of log place n is in omega (arith, named)
+  pub next_inside : place + 5 + length payload < length log
+  next_inside =
+      let n = sized in
+      let whole = (frame_sizes (behind_gate log place) has).whole in
+      let left = length-drop (place + 1) log in
+      omega (arith, n, whole, left)

@@ -2,6 +2,8 @@ pub mod Framed
 pub mod Frames
 pub mod Headers
 pub mod Once
+pub mod Readings
 pub mod Steps
 pub mod Versions
 pub mod Walks
+pub mod Windows

@@ -1,62 +1,47 @@
 -- How a step ends.
-use Rattle.std.proofs.Common.{◌≡◌, ◌≢◌, ◌∙◌, ℕ, ◌<◌, Bool, true, false, true≢false, List, [], ◌∷◌, ◌++◌, length, Option, refl, sym, ap, subst}
+use Rattle.std.proofs.Common.{◌≡◌, ◌∙◌, if◌then◌else◌, ℕ, ◌<◌, Bool, true, false, true≢false, List, ◌++◌, length, Option, refl, sym, ap, subst}
 use Rattle.std.specs.Prelude.{Vec}
 use Rattle.std.specs.declared.alloc.Global.{Global}
 use Rattle.marc_types.specs.declared.entry.Entry.{Entry}
 use Rattle.entry_history.specs.declared.extent.Extent.{Extent}
 use Rattle.sound_frames.specs.declared.damage.Damage.{Damage}
-use Rattle.sound_frames.specs.declared.damage.Reason.TheVariants.{Torn, Lost, NoFrame as Unframed_reason, NotValid as Invalid_reason}
 use Rattle.sound_frames.specs.declared.looking.Ahead.{Ahead}
 use Rattle.sound_frames.specs.declared.looking.Ahead.TheVariants.{NoFrame, NotValid, Sound}
-use Rattle.commit_journal.specs.declared.tail.Tail.{Tail}
-use Rattle.commit_journal.specs.declared.tail.Tail.TheVariants as tail
-use Rattle.commit_journal.specs.Tails.{tail_behind}
-use Rattle.commit_journal.specs.Log.{payload_of}
+use Rattle.sound_frames.specs.declared.stepping.Ending.{Ending}
+use Rattle.sound_frames.specs.declared.stepping.Ending.TheVariants as ending
+use Rattle.commit_journal.specs.Log.{has_frame, payload_of}
 use Rattle.entry_history.proofs.Histories.{holds_once}
-use Rattle.sound_frames.specs.Sound.{is_closed_gate, behind_gate, next_gate, gate_damage, tail_damage, IsSound, HasNone, HasNoTwo, MayPass, Ends, Closed, Unframed, Invalid}
-use Rattle.sound_frames.specs.Looking.{Sees, IsSoundAhead, CanPassNot, as_list, HasEnded, HasPassed}
+use Rattle.sound_frames.specs.Sound.{is_closed_gate, behind_gate, next_gate, closed_damage, IsSound, HasNone, HasNoTwo, MayPass}
+use Rattle.sound_frames.specs.Looking.{Sees, IsSoundAhead, EndsBy, as_list, HasEnded, HasPassed}
 
-module _ (version : ℕ) (log : List ℕ) (place : ℕ) (before : List Entry) (ahead : Ahead) (b : Bool) (is : b ≡ is_closed_gate log place) (shut : b ≡ true)
-    (cannot : CanPassNot version log place before ahead) (t : Tail) (tail_is : t ≡ tail_behind place (length log)) where
-  ends_with : (damages : List Damage) → damages ≡ tail_damage place t → Ends version log place before damages
-  ends_with damages is_now = Closed (sym is ∙ shut) (cannot.shut (sym is ∙ shut)) (is_now ∙ ap (tail_damage place) tail_is)
+-- why reading ends, at a gate behind which nothing sound was seen
+ends_either : (version : ℕ) (log : List ℕ) (place : ℕ) (before : List Entry) (b : Bool) (why other : Ending) → b ≡ is_closed_gate log place → why ≡ (if b then ending.Closed else other)
+    → (is_closed_gate log place ≡ true → HasNoTwo version log place before) → (is_closed_gate log place ≡ false → EndsBy version log place before other)
+    → EndsBy version log place before why
+ends_either version log place before true why other is why_is shut unshut = subst (EndsBy version log place before) (sym why_is) (sym is, shut (sym is))
+ends_either version log place before false why other is why_is shut unshut = subst (EndsBy version log place before) (sym why_is) (unshut (sym is))
 
-  pub ends_torn : (damages : List Damage) → t ≡ tail.Torn → damages ≡ record { place = place; reason = Torn } ∷ [] → Ends version log place before damages
-  ends_torn damages torn is_now = ends_with damages (is_now ∙ ap (tail_damage place) (sym torn))
+module _ (version : ℕ) (log : List ℕ) (place : ℕ) (before : List Entry) (damages : List Damage) (b : Bool) (why : Ending) (is : b ≡ is_closed_gate log place)
+    (extent : Extent) where
+  pub ended_unframed : Sees version log place before NoFrame extent → why ≡ (if b then ending.Closed else ending.NoFrame)
+      → HasEnded version log place before damages before damages why
+  ended_unframed seen why_is = record {
+    ends = ends_either version log place before b why ending.NoFrame is why_is
+        (λ shut entries sound. absurd (true≢false (sym sound.whole ∙ seen.0))) (λ unshut. (unshut, seen.0));
+    now_is = refl;
+    damages_are = refl;
+  }
 
-  pub ends_lost : (damages : List Damage) → t ≡ tail.More → damages ≡ record { place = place; reason = Lost } ∷ [] → Ends version log place before damages
-  ends_lost damages more is_now = ends_with damages (is_now ∙ ap (tail_damage place) (sym more))
+  pub ended_invalid : Sees version log place before NotValid extent → why ≡ (if b then ending.Closed else ending.NotValid)
+      → HasEnded version log place before damages before damages why
+  ended_invalid seen why_is = record {
+    ends = ends_either version log place before b why ending.NotValid is why_is
+        (λ shut entries sound. absurd (seen.1 entries sound)) (λ unshut. (unshut, seen.0, seen.1));
+    now_is = refl;
+    damages_are = refl;
+  }
 
-  pub ends_whole : t ≡ tail.Nothing → Ends version log place before []
-  ends_whole none = ends_with [] (ap (tail_damage place) (sym none))
-
-pub ends_unframed : (version : ℕ) (log : List ℕ) (place : ℕ) (before : List Entry) (extent : Extent) (damages : List Damage) (b : Bool) → b ≡ is_closed_gate log place → b ≡ false
-    → Sees version log place before NoFrame extent → damages ≡ record { place = place; reason = Unframed_reason } ∷ [] → Ends version log place before damages
-ends_unframed version log place before extent damages b is unshut seen is_now = Unframed (sym is ∙ unshut) seen.0 is_now
-
-pub ends_invalid : (version : ℕ) (log : List ℕ) (place : ℕ) (before : List Entry) (ahead : Ahead) (extent : Extent) (damages : List Damage) (b : Bool) → b ≡ is_closed_gate log place → b ≡ false
-    → ahead ≢ NoFrame → Sees version log place before ahead extent → CanPassNot version log place before ahead
-    → damages ≡ record { place = place; reason = Invalid_reason } ∷ [] → Ends version log place before damages
-ends_invalid version log place before NoFrame extent damages b is unshut framed seen not is_now = absurd (framed refl)
-ends_invalid version log place before NotValid extent damages b is unshut framed seen not is_now = Invalid (sym is ∙ unshut) seen.0 seen.1 is_now
-ends_invalid version log place before (Sound items) extent damages b is unshut framed seen not is_now = absurd (not.unshut (sym is ∙ unshut) tt)
-
--- a gate that was seen to lead to nothing sound can't be passed
-pub unframed_not : (version : ℕ) (log : List ℕ) (place : ℕ) (before : List Entry) (extent : Extent) → Sees version log place before NoFrame extent
-    → CanPassNot version log place before NoFrame
-unframed_not version log place before extent seen = record {
-  shut = λ shut entries sound. absurd (true≢false (sym sound.whole ∙ seen.0));
-  unshut = λ unshut sound. sound;
-}
-
-pub invalid_not : (version : ℕ) (log : List ℕ) (place : ℕ) (before : List Entry) (extent : Extent) → Sees version log place before NotValid extent
-    → CanPassNot version log place before NotValid
-invalid_not version log place before extent seen = record {
-  shut = λ shut entries sound. absurd (seen.1 entries sound);
-  unshut = λ unshut sound. sound;
-}
-
--- nor a closed one behind whose frame nothing sound was seen
+-- behind a closed gate's frame nothing sound was seen
 module _ (version : ℕ) (log : List ℕ) (place : ℕ) (before items : List Entry) (sound : IsSound version log place before items) where
   none_behind : (behind : Ahead) (extent : Extent) → Sees version log (next_gate log place) (before ++ items) behind extent → (IsSoundAhead behind → ⊥)
       → HasNone version log (next_gate log place) (before ++ items)
@@ -78,44 +63,34 @@ module _ (version : ℕ) (log : List ℕ) (place : ℕ) (before items : List Ent
   may_pass (Sound more) extent seen is shut = (more.items, seen.0)
 
 -- what a step comes to
-module _ (version : ℕ) (log : List ℕ) (place : ℕ) (before : List Entry) (damages : List Damage) (last : Option Damage) where
-  -- what is known of the damage at the end
-  abbrev pub Known : Ahead → Type 0
-  Known ahead = (v : ℕ) (es : List Entry) (extent : Extent) → Sees v log place es ahead extent → CanPassNot v log place es ahead → Ends v log place es (as_list last)
+pub ended_second : (version : ℕ) (log : List ℕ) (place : ℕ) (before : List Entry) (damages : List Damage) (items : Vec Entry Global) (extent : Extent)
+    → Sees version log place before (Sound items) extent → (next : ℕ) (behind : Ahead) (further : Extent) → next ≡ next_gate log place
+    → Sees version log next (before ++ items.items) behind further → is_closed_gate log place ≡ true → (IsSoundAhead behind → ⊥)
+    → HasEnded version log place before damages before damages ending.Closed
+ended_second version log place before damages items extent seen next behind further next_is behind_seen shut none =
+    let there : Sees version log (next_gate log place) (before ++ items.items) behind further = subst (λ p. Sees version log p (before ++ items.items) behind further) next_is behind_seen in
+    record { ends = (shut, no_second version log place before items.items seen.0 behind further there none); now_is = refl; damages_are = refl }
 
-  ended : Ends version log place before (as_list last) → HasEnded version log place before damages before damages last
-  ended ends = record { ends = ends; now_is = refl; damages_are = refl }
+-- a sound frame was seen, so one stands there
+pub framed_after : (version : ℕ) (log : List ℕ) (place : ℕ) (before : List Entry) (items : Vec Entry Global) (extent : Extent) → Sees version log place before (Sound items) extent
+    → has_frame (behind_gate log place) ≡ false → ⊥
+framed_after version log place before items extent seen none = true≢false (sym seen.0.whole ∙ none)
 
-  pub ended_unframed : (extent : Extent) → Sees version log place before NoFrame extent → Known NoFrame → HasEnded version log place before damages before damages last
-  ended_unframed extent seen known = ended (known version before extent seen (unframed_not version log place before extent seen))
-
-  pub ended_invalid : (extent : Extent) → Sees version log place before NotValid extent → Known NotValid → HasEnded version log place before damages before damages last
-  ended_invalid extent seen known = ended (known version before extent seen (invalid_not version log place before extent seen))
-
-  pub ended_second : (items : Vec Entry Global) (extent : Extent) → Sees version log place before (Sound items) extent → (behind : Ahead) (further : Extent)
-      → Sees version log (next_gate log place) (before ++ items.items) behind further → is_closed_gate log place ≡ true → (IsSoundAhead behind → ⊥) → Known (Sound items)
-      → HasEnded version log place before damages before damages last
-  ended_second items extent seen behind further then shut none known =
-      ended (known version before extent seen (record {
-        shut = λ s. no_second version log place before items.items seen.0 behind further then none;
-        unshut = λ unshut. absurd (true≢false (sym shut ∙ unshut));
-      }))
-
-pub passed_on : (version : ℕ) (log : List ℕ) (place : ℕ) (before : List Entry) (damages : List Damage) (items : Vec Entry Global) (extent : Extent)
-    → Sees version log place before (Sound items) extent → (now : List Entry) (damages_now : List Damage) (gate : Option Damage) (next : ℕ) (behind : Ahead) (further : Extent)
-    → Sees version log next (before ++ items.items) behind further → (is_closed_gate log place ≡ true → IsSoundAhead behind)
-    → now ≡ before ++ items.items → damages_now ≡ damages ++ as_list gate → as_list gate ≡ gate_damage log place → next ≡ next_gate log place → next < length log → place < next
-    → HasPassed version log place before damages now damages_now further next behind
-passed_on version log place before damages items extent seen now damages_now gate next behind further then sound now_is damages_are gate_is next_is within beyond =
-    let there : Sees version log (next_gate log place) (before ++ items.items) behind further = subst (λ p. Sees version log p (before ++ items.items) behind further) next_is then in
+pub passed_on : (version : ℕ) (log : List ℕ) (place told : ℕ) (before : List Entry) (damages : List Damage) (items : Vec Entry Global) (extent : Extent)
+    → Sees version log place before (Sound items) extent → (now : List Entry) (damages_now : List Damage) (gate : Option Damage) (b : Bool) (next : ℕ) (behind : Ahead) (further : Extent)
+    → Sees version log next (before ++ items.items) behind further → b ≡ is_closed_gate log place → (b ≡ true → IsSoundAhead behind)
+    → now ≡ before ++ items.items → damages_now ≡ damages ++ as_list gate → as_list gate ≡ closed_damage b told → next ≡ next_gate log place → next < length log → place < next
+    → HasPassed version log place told before damages now damages_now further next behind
+passed_on version log place told before damages items extent seen now damages_now gate b next behind further behind_seen is sound now_is damages_are gate_is next_is within beyond =
+    let there : Sees version log (next_gate log place) (before ++ items.items) behind further = subst (λ p. Sees version log p (before ++ items.items) behind further) next_is behind_seen in
     record {
       entries = items.items;
       sound = seen.0;
-      may = may_pass version log place before items.items seen.0 behind further there sound;
+      may = may_pass version log place before items.items seen.0 behind further there (λ shut. sound (is ∙ shut));
       now_is = now_is;
-      gate = damages_are ∙ ap (λ d. damages ++ d) gate_is;
+      gate = damages_are ∙ ap (λ d. damages ++ d) (gate_is ∙ ap (λ c. closed_damage c told) is);
       next_is = next_is;
       within = within;
       further = beyond;
-      seen = subst (λ es. Sees version log next es behind further) (sym now_is) then;
+      seen = subst (λ es. Sees version log next es behind further) (sym now_is) behind_seen;
     }

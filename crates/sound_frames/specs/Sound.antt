@@ -43,9 +43,13 @@ HasNoTwo version log place before =
 abbrev pub MayPass : ℕ → List ℕ → ℕ → List Entry → Type 0
 MayPass version log place entries = is_closed_gate log place ≡ true → (others : List Entry) × IsSound version log (next_gate log place) entries others
 
--- the damage of a gate that is passed: it is closed
+-- the damage of a gate at a place that is passed: it is closed
+abbrev pub closed_damage : Bool → ℕ → List Damage
+closed_damage closed place = if closed then record { place = place; reason = ClosedGate } ∷ [] else []
+
+-- that of a log
 abbrev pub gate_damage : List ℕ → ℕ → List Damage
-gate_damage log place = if is_closed_gate log place then record { place = place; reason = ClosedGate } ∷ [] else []
+gate_damage log place = closed_damage (is_closed_gate log place) place
 
 -- the damage of the closed gate at which reading ends: bytes stand behind it, no more than a crash leaves, or more
 abbrev pub tail_damage : ℕ → Tail → List Damage

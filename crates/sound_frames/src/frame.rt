@@ -1,5 +1,5 @@
 //! The gates of a log's bytes, and the frames behind them.
-ghost use Rattle.std.specs.Prelude.{◌≡◌, ◌≤◌, ◌<◌, ◌+◌, true, false, length, IfSome, OnSome, IfNone, drop, take};
+ghost use Rattle.std.specs.Prelude.{◌≡◌, ◌≤◌, ◌<◌, ◌+◌, true, false, length, IfSome, IfNone};
 ghost use Rattle.commit_journal.specs.Log.{payload_length, has_frame, payload_of};
 ghost use Rattle.sound_frames.specs.Sound.{is_closed_gate, behind_gate, next_gate};
 
@@ -47,22 +47,23 @@ pub(crate) fn frame_behind(log: &[u8], place: usize) -> Option<&[u8]>
     frame_in(&log[place + 1..])
 }
 
+/// Where the gate stands behind the whole frame of the gate at a place, where one stands there.
+#[tactic(auto, using(crate::proofs::Frames::next_of, crate::proofs::Frames::next_inside))]
+pub(crate) fn next_gate(log: &[u8], place: usize) -> Option<usize>
+    requires { place < length log.now }
+    ensures value { IfSome result (λ next. next ≡ next_gate log.now place) }
+    ensures within { IfSome result (λ next. next < length log.now) }
+    ensures further { IfSome result (λ next. place < next) }
+    ensures none { IfNone result (has_frame (behind_gate log.now place) ≡ false) }
+{
+    let payload = frame_behind(log, place)?;
+    Some(place + HEAD_BYTES + payload.len())
+}
+
 /// Whether the gate at a place is closed.
 pub(crate) fn is_closed_gate(log: &[u8], place: usize) -> bool
     requires { place < length log.now }
     ensures { result ≡ is_closed_gate log.now place }
 {
     log[place] == CLOSED_GATE
-}
-
-/// Where the gate stands behind the frame of the gate at a place.
-#[tactic(auto, using(crate::proofs::Frames::long_there, crate::proofs::Frames::next_there, crate::proofs::Frames::next_value))]
-pub(crate) fn next_gate(log: &[u8], place: usize) -> usize
-    requires within { place < length log.now }
-    requires whole { has_frame (behind_gate log.now place) ≡ true }
-    ensures value { result ≡ next_gate log.now place }
-    ensures within { result < length log.now }
-    ensures further { place < result }
-{
-    place + HEAD_BYTES + length_in(&log[place + 1..])
 }

@@ -12,3 +12,4 @@ mod looking;
 mod sound;
 mod stepping;
 mod version;
+mod window;

@@ -1,7 +1,7 @@
 //! A small journal that is damaged at each place: what is sound of it, next to a reading in words of these tests' own, and its digest.
 use super::own_reading::{OwnEntry, OwnPart, is_written, read_sound};
 use journal_verification::look_source;
-use marc_types::{Limits, NoMemory};
+use marc_types::Limits;
 use outside_mem::MemSource;
 use sound_frames::{SoundPart, find_sound};
 use std::alloc::{AllocError, Global};
@@ -21,8 +21,13 @@ const LIMITS: Limits = Limits {
 };
 
 // Each of these stands behind a function without a clause, so that the walk's proof needn't know what is sound.
-fn found_in(alloc: Global, log: &[u8]) -> Result<SoundPart, NoMemory> {
-    find_sound(alloc, log, LIMITS)
+fn found_in(alloc: Global, log: &[u8]) -> Result<SoundPart, AllocError> {
+    let source = MemSource::new(Vec::from_slice(alloc, log)?, 8192, Vec::new(alloc));
+    let (sound, _source) = find_sound(alloc, LIMITS, source);
+    match sound {
+        Ok(sound) => Ok(sound),
+        Err(_) => Err(AllocError),
+    }
 }
 
 /// The digest that `verify` tells of a journal; none where the bytes are none.

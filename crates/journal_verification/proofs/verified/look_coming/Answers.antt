@@ -73,8 +73,8 @@ returns-clause-verified g c log comes =
     let bytes : c.in_ok-bytes.bytes ≡ length log = omega (arith, total, size, rest, least, place) in
     whole_is log c.fill.new.self.window.items _ come long number right (is ∙ says) c.args.wanted end c.in_ok-bytes.bytes started found c.torn_at.result c.tail_behind.result
     (subst (λ p. IsRead number p c.args.wanted started (drop 16 log) found end) place read) held
-    bytes (c.torn_at.ensures ∙ ap (λ p. torn_behind p c.in_ok-bytes.bytes) c.place-place.ensures)
-    (c.tail_behind.ensures ∙ ap (λ p. tail_behind p c.in_ok-bytes.bytes) c.place-place.ensures)
+    bytes (c.torn_at.ensures ∙ ap (λ p. torn_behind p c.in_ok-bytes.bytes) c.place-place.ensures.value)
+    (c.tail_behind.ensures ∙ ap (λ p. tail_behind p c.in_ok-bytes.bytes) c.place-place.ensures.value)
 
 pub returns-clause-front : goal.returns-clause-front
 returns-clause-front g c log comes =

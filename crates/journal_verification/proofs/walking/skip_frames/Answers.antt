@@ -14,7 +14,7 @@ pub returns-in-Lost-clause-lost : goal.returns-in-Lost-clause-lost
 returns-in-Lost-clause-lost g c wrong is b comes =
     let on = c.gates.invariant.on b comes in
     let lost = ends_lost _ _ b _ _ _ on.1 (λ x come. subst (GateSays x) c.in-Lost.is (c.in_ok-next_gate.ensures.says x come)) in
-    subst (λ p. IsLostAt p (walk c.args.coming.now.place 0 b)) (sym c.place-place.ensures ∙ same_place _ wrong is) lost
+    subst (λ p. IsLostAt p (walk c.args.coming.now.place 0 b)) (sym c.place-place.ensures.value ∙ same_place _ wrong is) lost
 
 pub gates-preserved : goal.gates-preserved
 gates-preserved g c =

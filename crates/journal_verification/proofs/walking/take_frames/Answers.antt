@@ -54,7 +54,7 @@ pub returns-in-Lost-clause-unread : goal.returns-in-Lost-clause-unread
 returns-in-Lost-clause-unread g c wrong is b comes =
     let taken = c.gates.invariant.taken b comes in
     let lost = ends_lost _ _ b _ taken.frames _ taken.on (λ x come. subst (GateSays x) c.in-Lost.is (c.in_ok-next_gate.ensures.says x come)) in
-    NoGate (subst (λ p. IsLostAt p (walk c.args.coming.now.place 0 b)) (sym c.place-place.ensures ∙ same_place _ wrong is) lost)
+    NoGate (subst (λ p. IsLostAt p (walk c.args.coming.now.place 0 b)) (sym c.place-place.ensures.value ∙ same_place _ wrong is) lost)
 
 pub gates-preserved : goal.gates-preserved
 gates-preserved g c =
@@ -106,7 +106,7 @@ returns-in-Ok-skip_frames-clause-unread g c wrong is b comes =
     let on = walks_frame _ c.gates.coming.place c.in-Frame.count c.pass.new.self.place b _ filled c.pass.new.self.window.items c.payload_in.result.now taken.frames _ _ _ taken.on
     (λ x come. subst (GateSays x) c.in-Frame.is (c.in_ok-next_gate.ensures.says x come)) c.in_ok-next_gate.ensures.comes c.pass.ensures.comes within
     (omega (arith, place, same)) payload in
-    subst (IsUnread (number_of c.args.version) (walk c.args.coming.now.place 0 b)) (sym c.place-place.ensures ∙ same_place _ wrong is)
+    subst (IsUnread (number_of c.args.version) (walk c.args.coming.now.place 0 b)) (sym c.place-place.ensures.value ∙ same_place _ wrong is)
     (unread_bad (number_of c.args.version) c.args.coming.now.place c.gates.coming.place c.pass.new.self.place c.gates.frames _ b c.gates.coming.window.items c.pass.new.self.window.items
     c.payload_in.result.now _ _ c.gates.counter taken c.gates.invariant.version none on c.in-Ok-skip_frames.ensures.closed)
 

@@ -9,6 +9,7 @@ invariant-loop-self g l =
       place : l.self.place ≡ l.fn.self.place;
       hasher : l.self.hasher ≡ l.fn.self.hasher;
       comes : (b : List ℕ) → Comes l.fn.self.window.items (left l.fn.self.source) b → Comes l.self.window.items (left l.self.source) b;
+      grows : length l.fn.self.window.items ≤ length l.self.window.items;
       faults : g.S.Source.faults l.fn.self.source ≤ g.S.Source.faults l.self.source;
     }
 

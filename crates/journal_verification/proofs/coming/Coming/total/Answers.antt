@@ -4,13 +4,13 @@ use Rattle.journal_verification.proofs.coming.Coming.total.Goals as goal
 
 pub loop-self-preserved : goal.loop-self-preserved
 loop-self-preserved g c =
-    let place = c.pass.ensures.place in
+    let place = c.skip.ensures.place in
     let same = c.fill.ensures.place in
     let before = c.loop-self.invariant.faults in
     let later = c.fill.ensures.cause.later in
-    let source = ap g.S.Source.faults c.pass.ensures.source in
+    let source = ap g.S.Source.faults c.skip.ensures.source in
     record {
-      on = λ b comes. comes_passed _ _ _ _ b _ _ _ _ _ _ (c.loop-self.invariant.on b comes) c.in_ok-fill.ensures.comes c.pass.ensures.comes
+      on = λ b comes. comes_passed _ _ _ _ b _ _ _ _ _ _ (c.loop-self.invariant.on b comes) c.in_ok-fill.ensures.comes c.skip.ensures.comes
           (c.in_ok-fill.ensures.filled c.if-branch.true) (omega (arith, place, same));
       faults = omega (arith, before, later, source);
     }
