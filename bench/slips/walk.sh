@@ -58,6 +58,15 @@ if [ "$(id -u)" != 0 ]; then
 fi
 slip 4 '/dev/full: no space left' export u.jnl /dev/full
 
+echo '# parts'
+slip 2 'a word is missing' totals all.out
+slip 2 'all.out is named twice' join all.out all.out
+slip 2 '1 is no such number: N from 2 to 1024' split 1 p A=made.mrc
+slip 2 "made.mrc isn't CODE=FILE" split 2 p made.mrc
+slip 3 'nofile.exp: no such file' join joined.out all.out nofile.exp
+slip 11 '' join joined.out all.out made.mrc
+slip 11 '' totals all.out all.out
+
 echo '# in use'
 ( exec 9<u.jnl; flock -x 9; union_cat export u.jnl held.out >out 2>err; [ $? -eq 5 ] && grep -qF 'u.jnl: in use by another command' err ) || { echo 'a held journal is not told'; wrong=1; }
 ( exec 9<u.jnl; flock -x 9; union_cat checkpoint u.jnl held.pnt >out 2>err; ! grep -qF 'with `reading`' err ) || { echo 'reading is told where it cannot stand'; wrong=1; }

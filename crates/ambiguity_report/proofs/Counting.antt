@@ -1,12 +1,12 @@
 -- Counting how fields stand, one record after another.
-use Rattle.std.proofs.Common.{◌≡◌, ℕ, ◌+◌, ◌*◌, ◌^◌, ◌<◌, ◌≤◌, Bool, List, [], ◌∷◌, length, map, ap, ◌∙◌, arith}
+use Rattle.std.proofs.Common.{◌≡◌, ℕ, ◌+◌, ◌*◌, ◌^◌, ◌<◌, ◌≤◌, Bool, List, ◌∷◌, length, map, ap, ◌∙◌, arith}
 use Rattle.std.specs.List.{sum_by, count_by}
 use Rattle.std.proofs.lemmas.List.Sums.{sum_by-cons, count_by-le-length}
 use Rattle.marc_types.specs.declared.key.Class.{Class}
 use Rattle.marc_types.specs.declared.key.Class.TheVariants.{Authority, Bibliographic}
 use Rattle.marc_types.specs.declared.key.Key.{Key}
 use Rattle.entry_record.specs.Authority.{Linkable}
-use Rattle.catalogue_rules.specs.State.{KeptRecord, Row, State, linkable_authorities, rows_of}
+use Rattle.catalogue_rules.specs.State.{KeptRecord, Row, State}
 use Rattle.catalogue_rules.specs.Output.{total_line}
 use Rattle.catalogue_rules.specs.Receipt as definition
 use Rattle.catalogue_rules.specs.Receipt.{is_linked, is_ambiguous, is_unlinked, count_standing}
@@ -14,7 +14,7 @@ use Rattle.catalogue_tables.specs.Stands.{stands_as, field_standing}
 use Rattle.catalogue_tables.specs.declared.standing.Standing.{Standing}
 use Rattle.catalogue_core.specs.Standings.{is_linked_here, is_ambiguous_here, is_unlinked_here}
 use Rattle.catalogue_core.proofs.Standings.{linked_alike, ambiguous_alike, unlinked_alike, count_alike}
-use Rattle.ambiguity_report.specs.Totals.{AddsRecord, AreAllTotals, AreTotals, HaveRoom, no_totals, totals_text}
+use Rattle.ambiguity_report.specs.Totals.{AddsRecord, AreAllTotals, AreTotals, totals_text}
 use Rattle.ambiguity_report.specs.declared.totals.Totals.{Totals}
 
 -- ---- how fields stand, by the rules
@@ -34,9 +34,6 @@ pub record IsCounting (test : definition.Standing → Bool) (all : List Linkable
   pub split : n + count_rows test all class left ≡ count_rows test all class rows
   pub room : n + 2 ^ 64 * length left ≤ 2 ^ 64 * length rows
 
-one_begun : (test : definition.Standing → Bool) (all : List Linkable) (class : Class) (rows : List Row) → IsCounting test all class rows rows 0
-one_begun test all class rows = record { split = omega arith; room = omega arith }
-
 module _ (here : Standing → Bool) (test : definition.Standing → Bool) (same : (s : definition.Standing) → here (stands_as s) ≡ test s) (all : List Linkable) (class : Class) where
   one_more : (rows before after : List Row) (key : Key) (r : KeptRecord) (xs : List Standing) (n m : ℕ) → IsCounting test all class rows before n
       → before ≡ (key, r) ∷ after → xs ≡ map (field_standing all class) r.fields → length xs < 2 ^ 64
@@ -51,27 +48,12 @@ module _ (here : Standing → Bool) (test : definition.Standing → Bool) (same 
       let room = so_far.room in
       record { split = omega arith; room = omega arith }
 
-one_room : (test : definition.Standing → Bool) (all : List Linkable) (class : Class) (rows left : List Row) (n : ℕ) → length rows < 2 ^ 63
-    → IsCounting test all class rows left n → n < 2 ^ 127
-one_room test all class rows left n few so_far = let room = so_far.room in omega arith
-
-one_done : (test : definition.Standing → Bool) (all : List Linkable) (class : Class) (rows : List Row) (n : ℕ) → IsCounting test all class rows [] n
-    → n ≡ count_rows test all class rows
-one_done test all class rows n done = let split = done.split in omega arith
-
 -- ---- the three counts
 
 pub record AreCounting (all : List Linkable) (class : Class) (rows left : List Row) (totals : Totals) : Type 0 where
   pub linked : IsCounting is_linked all class rows left totals.linked
   pub ambiguous : IsCounting is_ambiguous all class rows left totals.ambiguous
   pub unlinked : IsCounting is_unlinked all class rows left totals.unlinked
-
-pub counting_begun : (all : List Linkable) (class : Class) (rows : List Row) → AreCounting all class rows rows no_totals
-counting_begun all class rows = record {
-  linked = one_begun is_linked all class rows;
-  ambiguous = one_begun is_ambiguous all class rows;
-  unlinked = one_begun is_unlinked all class rows;
-}
 
 -- the next row is counted
 pub counting_more : (all : List Linkable) (class : Class) (rows before after : List Row) (key : Key) (r : KeptRecord) (xs : List Standing) (old new : Totals)
@@ -83,22 +65,6 @@ counting_more all class rows before after key r xs old new so_far is are adds = 
       adds.few adds.ambiguous;
   unlinked = one_more is_unlinked_here is_unlinked unlinked_alike all class rows before after key r xs old.unlinked new.unlinked so_far.unlinked is are
       adds.few adds.unlinked;
-}
-
--- counts over few rows have room
-pub counting_room : (all : List Linkable) (class : Class) (rows left : List Row) (totals : Totals) → length rows < 2 ^ 63 → AreCounting all class rows left totals
-    → HaveRoom totals
-counting_room all class rows left totals few so_far = record {
-  linked = one_room is_linked all class rows left totals.linked few so_far.linked;
-  ambiguous = one_room is_ambiguous all class rows left totals.ambiguous few so_far.ambiguous;
-  unlinked = one_room is_unlinked all class rows left totals.unlinked few so_far.unlinked;
-}
-
-pub counting_done : (class : Class) (s : State) (totals : Totals) → AreCounting (linkable_authorities s) class (rows_of class s) [] totals → AreTotals class s totals
-counting_done class s totals done = record {
-  linked = one_done is_linked (linkable_authorities s) class (rows_of class s) totals.linked done.linked;
-  ambiguous = one_done is_ambiguous (linkable_authorities s) class (rows_of class s) totals.ambiguous done.ambiguous;
-  unlinked = one_done is_unlinked (linkable_authorities s) class (rows_of class s) totals.unlinked done.unlinked;
 }
 
 -- both classes together

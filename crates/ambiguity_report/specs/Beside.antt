@@ -11,7 +11,7 @@ use Rattle.marc_types.specs.declared.entry.Tie.{Tie}
 use Rattle.heading_fields.specs.Numbers.{key_text}
 use Rattle.catalogue_rules.specs.State.{KeptField, KeptRecord, Row, State, rows_of, linkable_authorities}
 use Rattle.catalogue_rules.specs.Lines.{line, then_word, then_words}
-use Rattle.catalogue_rules.specs.Output.{class_letter, tag_text, ambiguous_line, field_lines}
+use Rattle.catalogue_rules.specs.Output.{class_letter, tag_text, ambiguous_line}
 use Rattle.catalogue_tables.specs.declared.standing.Standing.{Standing}
 use Rattle.catalogue_tables.specs.declared.standing.Standing.TheVariants.{Linked, Ambiguous, Unlinked, NoHeading}
 
@@ -58,9 +58,5 @@ abbrev pub rows_lines : (Class → Key → ℕ → KeptField → List ℕ) → C
 rows_lines line_of class rows = flat_map (row_lines line_of class) rows
 
 -- the lines of a class's ambiguous fields
-abbrev pub ambiguous_lines : Class → State → List ℕ
-ambiguous_lines class s = rows_lines (ambiguous_line (linkable_authorities s)) class (rows_of class s)
-
--- the lines of all ambiguous fields
-abbrev pub all_ambiguous_lines : State → List ℕ
-all_ambiguous_lines s = field_lines (ambiguous_line (linkable_authorities s)) s
+abbrev pub ambiguous_in_class : Class → State → List ℕ
+ambiguous_in_class class s = rows_lines (ambiguous_line (linkable_authorities s)) class (rows_of class s)

@@ -4,7 +4,7 @@ ghost use Rattle.std.specs.Io.KnownBytes.{Appends};
 ghost use Rattle.outside.specs.Fault.{HasWriteCause};
 ghost use Rattle.outside.specs.Sink.{WritesFront};
 ghost use Rattle.catalogue_rules.specs.State.{rows_of};
-ghost use Rattle.ambiguity_report.specs.Beside.{ambiguous_lines};
+ghost use Rattle.ambiguity_report.specs.Beside.{ambiguous_in_class};
 ghost use Rattle.ambiguity_report.specs.Totals.{AreTotals, HaveRoom};
 ghost use Rattle.numbered_store.specs.Kept.{shown_row};
 
@@ -53,8 +53,8 @@ pub(crate) fn write_ambiguous<K: Sink>(
     out: &mut K,
 ) -> Result<Totals, WriteFault>
     requires { map shown_row rows.now.entries ≡ rows_of class engine.now.state }
-    ensures bytes { OnOk result (Appends (K.written out.old) (K.written out.new) (ambiguous_lines class engine.now.state)) }
-    ensures front { WritesFront (K.written out.old) (K.written out.new) (ambiguous_lines class engine.now.state) }
+    ensures bytes { OnOk result (Appends (K.written out.old) (K.written out.new) (ambiguous_in_class class engine.now.state)) }
+    ensures front { WritesFront (K.written out.old) (K.written out.new) (ambiguous_in_class class engine.now.state) }
     ensures tells { is_some (K.written out.new) ≡ is_some (K.written out.old) }
     ensures cause { HasWriteCause (K.faults out.old) (K.faults out.new) result }
     ensures totals { IfOk result (AreTotals class engine.now.state) }

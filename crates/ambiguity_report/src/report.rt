@@ -5,8 +5,7 @@ ghost use Rattle.outside.specs.Fault.{HasWriteCause};
 ghost use Rattle.outside.specs.Sink.{WritesFront};
 ghost use Rattle.catalogue_rules.specs.Settle.{state_of};
 ghost use Rattle.catalogue_rules.specs.State.{State};
-ghost use Rattle.catalogue_rules.specs.Output.{awaits_line, field_lines, report_of};
-ghost use Rattle.ambiguity_report.specs.Beside.{all_ambiguous_lines};
+ghost use Rattle.catalogue_rules.specs.Output.{ambiguous_lines, awaiting_lines, report_of};
 ghost use Rattle.ambiguity_report.specs.Rows.{AreRows};
 ghost use Rattle.ambiguity_report.specs.Totals.{AreAllTotals};
 
@@ -31,8 +30,8 @@ fn write_all_ambiguous<K: Sink>(
     out: &mut K,
 ) -> Result<Totals, WriteFault>
     requires { AreRows engine.now.state rows.now }
-    ensures bytes { OnOk result (Appends (K.written out.old) (K.written out.new) (all_ambiguous_lines engine.now.state)) }
-    ensures front { WritesFront (K.written out.old) (K.written out.new) (all_ambiguous_lines engine.now.state) }
+    ensures bytes { OnOk result (Appends (K.written out.old) (K.written out.new) (ambiguous_lines engine.now.state)) }
+    ensures front { WritesFront (K.written out.old) (K.written out.new) (ambiguous_lines engine.now.state) }
     ensures tells { is_some (K.written out.new) ≡ is_some (K.written out.old) }
     ensures cause { HasWriteCause (K.faults out.old) (K.faults out.new) result }
     ensures totals { IfOk result (AreAllTotals engine.now.state) }
@@ -54,9 +53,9 @@ fn write_all_awaits<K: Sink>(
     out: &mut K,
 ) -> Result<(), WriteFault>
     ensures bytes { (s : State) → AreRows s rows.now
-        → OnOk result (Appends (K.written out.old) (K.written out.new) (field_lines awaits_line s)) }
+        → OnOk result (Appends (K.written out.old) (K.written out.new) (awaiting_lines s)) }
     ensures front { (s : State) → AreRows s rows.now
-        → WritesFront (K.written out.old) (K.written out.new) (field_lines awaits_line s) }
+        → WritesFront (K.written out.old) (K.written out.new) (awaiting_lines s) }
     ensures tells { is_some (K.written out.new) ≡ is_some (K.written out.old) }
     ensures cause { HasWriteCause (K.faults out.old) (K.faults out.new) result }
 {

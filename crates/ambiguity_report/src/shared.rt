@@ -11,7 +11,7 @@ ghost use Rattle.catalogue_tables.specs.Sharing.{shown_keys};
 ghost use Rattle.numbered_store.specs.Kept.{shown_row};
 
 use crate::words::{LINE_FEED, add_key_word};
-use catalogue_core::Engine;
+use catalogue_core::{Engine, is_least_of};
 use marc_types::Key;
 use numbered_store::RowMap;
 use outside::{Sink, WriteFault};
@@ -43,11 +43,7 @@ fn write_group<K: Sink>(
     ensures tells { is_some (K.written out.new) ≡ is_some (K.written out.old) }
     ensures cause { HasWriteCause (K.faults out.old) (K.faults out.new) result }
 {
-    let [least, _other, ..] = group else {
-        return Ok(());
-    };
-    let least: &Key = least;
-    if own == least {
+    if is_least_of(own, group) {
         make_line(text, group)?;
         out.write_all(text)?;
     }

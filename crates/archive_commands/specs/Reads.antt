@@ -8,7 +8,7 @@ use Rattle.catalogue_rules.specs.Output.{export_of, report_of}
 use Rattle.durable_catalogue.specs.Logs.{HasHistory}
 use Rattle.console_lines.specs.Ends.{Outcome, IsTold, TellsNoFault, IsSilent, out_unwritten}
 use Rattle.console_lines.specs.declared.end.End.{End}
-use Rattle.console_lines.specs.declared.end.End.TheVariants.{Done, Refused, Unwritten, Told}
+use Rattle.console_lines.specs.declared.end.End.TheVariants.{Done, Refused, Unwritten, Told, BroughtInPart, Differ}
 use Rattle.console_lines.specs.declared.end.Unwritten.TheVariants as unwritten
 use Rattle.console_lines.specs.declared.fault.Fault.{Fault}
 use Rattle.console_lines.specs.declared.fault.Fault.TheVariants.{Usage, Input, Device, NotAJournal, Full, Memory, OldVersion, OtherHistory}
@@ -51,6 +51,8 @@ EndsReading (Told Full) = Unit {0}
 EndsReading (Told Memory) = Unit {0}
 EndsReading (Told OldVersion) = ⊥
 EndsReading (Told OtherHistory) = ⊥
+EndsReading BroughtInPart = ⊥
+EndsReading Differ = ⊥
 
 -- A command that reads a journal: what is due of its history is written into the file OUT, and the journal keeps it.
 pub record ReadsJournal (journal out : List ℕ) (due : List Entry → List ℕ) (o : Outcome) : Type 0 where

@@ -8,7 +8,7 @@ use Rattle.command_words.specs.Command.{AreNames}
 use Rattle.command_words.specs.declared.library.Library.{Library}
 use Rattle.console_lines.specs.Ends.{Outcome, IsTold, IsAllDone, TellsNoFault, IsSilent, IsResultTold, end_of, side_unwritten, pages_unwritten, console_unwritten}
 use Rattle.console_lines.specs.declared.end.End.{End}
-use Rattle.console_lines.specs.declared.end.End.TheVariants.{Done, Refused, Unwritten as NotWritten, Told}
+use Rattle.console_lines.specs.declared.end.End.TheVariants.{Done, Refused, Unwritten as NotWritten, Told, BroughtInPart, Differ}
 use Rattle.console_lines.specs.declared.end.OutputsFault.{OutputsFault}
 use Rattle.console_lines.specs.declared.end.OutputsFault.TheVariants.{NoMemory, Unwritten}
 use Rattle.console_lines.specs.declared.end.Unwritten.{Unwritten as Which}
@@ -39,6 +39,8 @@ ends_of_run Done ends = tt
 ends_of_run Refused ends = tt
 ends_of_run (NotWritten which) ends = tt
 ends_of_run (Told why) ends = ends
+ends_of_run BroughtInPart ends = absurd ends
+ends_of_run Differ ends = absurd ends
 
 same_fault : (a b : OutputsFault) → ◌≡◌ {A = Result (Unit {0}) OutputsFault} (Err a) (Err b) → a ≡ b
 same_fault a b is = cc
@@ -48,6 +50,8 @@ all_untold Done all = tt
 all_untold Refused all = tt
 all_untold (NotWritten which) all = absurd all
 all_untold (Told why) all = absurd all
+all_untold BroughtInPart all = absurd all
+all_untold Differ all = absurd all
 
 -- ---- what changed, and what is open
 

@@ -6,7 +6,7 @@ use Rattle.outside.specs.Room.{RoomView, SameBut}
 use Rattle.command_words.specs.declared.library.Library.{Library}
 use Rattle.console_lines.specs.Ends.{Outcome, IsAllDone, IsSilent, side_unwritten, pages_unwritten, console_unwritten}
 use Rattle.console_lines.specs.declared.end.End.{End}
-use Rattle.console_lines.specs.declared.end.End.TheVariants.{Done, Refused, Unwritten, Told}
+use Rattle.console_lines.specs.declared.end.End.TheVariants.{Done, Refused, Unwritten, Told, BroughtInPart, Differ}
 use Rattle.console_lines.specs.declared.end.OutputsFault.{OutputsFault}
 use Rattle.console_lines.specs.declared.end.OutputsFault.TheVariants.{Unwritten as NotWritten}
 use Rattle.console_lines.specs.declared.end.Unwritten.TheVariants.{Pages}
@@ -23,6 +23,8 @@ EndsBrowse Done = Unit {0}
 EndsBrowse Refused = Unit {0}
 EndsBrowse (Unwritten which) = Unit {0}
 EndsBrowse (Told why) = IsToldOfLoading why
+EndsBrowse BroughtInPart = ⊥
+EndsBrowse Differ = ⊥
 
 -- A file has pages of these entries, the last behind all of them: none is of fewer than there were before.
 pub record HoldsPages (before all : List Entry) (file : Option (List ℕ)) : Type 0 where

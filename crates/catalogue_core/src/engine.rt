@@ -8,10 +8,10 @@ ghost use Rattle.catalogue_rules.specs.State.{kept_field, linkable_authorities, 
 ghost use Rattle.catalogue_tables.specs.Sharing.{keys_crossing, keys_sharing, shown_keys};
 ghost use Rattle.catalogue_tables.specs.Stands.{field_standing};
 ghost use Rattle.catalogue_rules.specs.Settle.{arrival_of, step};
-ghost use Rattle.catalogue_rules.specs.Receipt.{kept_under, receipt_of};
+ghost use Rattle.catalogue_rules.specs.Receipt.{kept_under};
 ghost use Rattle.catalogue_rules.specs.Valid.{IsValid};
 ghost use Rattle.linking_laws.specs.Visits.{touched};
-ghost use Rattle.commit_stages.specs.Receipts.{AreReceiptCounts};
+ghost use Rattle.commit_stages.specs.Receipts.{AreCountsOfStep};
 ghost use Rattle.catalogue_core.specs.Engines.{empty_engine, kept_engine};
 ghost use Rattle.numbered_store.specs.Kept.{found_field, kept_record, shown_row};
 
@@ -71,8 +71,7 @@ impl Engine {
         steps: &mut Steps<L>,
     ) -> Result<CommitCounts, NoMemory>
         ensures state { OnOk result (self.new.state ≡ step self.old.state (arrival_of item)) }
-        ensures changes { IfOk result (λ changes. (at : ℕ)
-            → AreReceiptCounts (receipt_of at self.old.state (arrival_of item) (step self.old.state (arrival_of item))) changes) }
+        ensures changes { IfOk result (AreCountsOfStep self.old.state (arrival_of item)) }
         ensures before { self.new.before ≡ self.old.before }
         ensures err { OnErr result (self.new ≡ self.old) }
         ensures visits { steps.new ≤ steps.old + touched self.old.state item }

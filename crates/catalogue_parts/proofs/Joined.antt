@@ -14,12 +14,12 @@ use Rattle.entry_record.specs.History.{IsAdmitted}
 use Rattle.catalogue_rules.specs.State.{KeptField, Row, State, row_linkable}
 use Rattle.catalogue_rules.specs.Settle.{state_of}
 use Rattle.catalogue_rules.specs.Receipt.{Standing, is_linked, is_ambiguous, is_unlinked, count_standing}
-use Rattle.catalogue_rules.specs.Output.{written_row, export_of_rows, export_of, field_lines, ambiguous_line, awaits_line, report_of, count_all}
+use Rattle.catalogue_rules.specs.Output.{written_row, export_of_rows, export_of, field_lines, ambiguous_line, ambiguous_lines, awaits_line, awaiting_lines, report_of, count_all}
 use Rattle.catalogue_rules.specs.Valid.{IsAscending}
 use Rattle.catalogue_rules.proofs.States.{every_state_valid}
 use Rattle.catalogue_parts.specs.declared.totals.Totals.{Totals}
 use Rattle.catalogue_parts.specs.Parts.{Part, no_records, rows_in, cut, ranges, IsJobOf, AreJobsOf}
-use Rattle.catalogue_parts.specs.Joined.{joined, joined_number, joined_report, ambiguous_lines, awaiting_lines, totals_of, line_of_totals, joined_totals}
+use Rattle.catalogue_parts.specs.Joined.{joined, joined_number, joined_report, totals_of, line_of_totals, joined_totals}
 use Rattle.catalogue_parts.proofs.Jobs.{job_cut, same_shared, same_cross, no_records_cut, jobs_cut}
 use Rattle.catalogue_parts.proofs.Ranges.{rows_in_turn}
 

@@ -21,6 +21,7 @@ use Rattle.catalogue_rules.specs.Receipts.{receipt_behind, receipts_behind}
 use Rattle.catalogue_rules.proofs.Elements.{Each, each_weaker, each_both, each_map, each_filter}
 use Rattle.catalogue_rules.proofs.States.{IsDoneState, IsFitArrival, done_valid, fit_entry}
 use Rattle.catalogue_rules.proofs.Still.{valid_settled}
+use Rattle.catalogue_parts.specs.Joined.{TellTogether}
 use Rattle.catalogue_parts.specs.Parts.{Part, comes_to, part_of, cut, ranges}
 use Rattle.catalogue_parts.proofs.Cut.{comes, ready_again, step_done, own_step, other_step, empty_done, arrivals_of_part, part_cut}
 use Rattle.catalogue_parts.proofs.Ranges.{in_one_range}
@@ -198,15 +199,11 @@ told_together number test tells bounds before added a b class =
     ∙ numbers_of_parts test (ranges bounds) (in_one_range bounds) (map arrival_of added) (state_of before)
     ∙ sym (told_numbers number test tells added before (each_weaker IsComing IsBrought (λ b both. both.0) (map arrival_of added) coming))
 
-abbrev Together : (Receipt → ℕ) → Type 0
-Together number = (bounds : List Key) (before added : List Entry) → All IsAdmitted before → All IsAdmitted added → All (λ e. e.class ≡ Bibliographic) added →
-    sum_by (λ mine. sum_by number (receipts_behind (part_of mine before) (part_of mine added))) (ranges bounds) ≡ sum_by number (receipts_behind before added)
-
-pub linked_together : Together (λ r. r.linked)
+pub linked_together : TellTogether (λ r. r.linked)
 linked_together = told_together (λ r. r.linked) is_linked tells_linked
 
-pub ambiguous_together : Together (λ r. r.ambiguous)
+pub ambiguous_together : TellTogether (λ r. r.ambiguous)
 ambiguous_together = told_together (λ r. r.ambiguous) is_ambiguous tells_ambiguous
 
-pub unlinked_together : Together (λ r. r.unlinked)
+pub unlinked_together : TellTogether (λ r. r.unlinked)
 unlinked_together = told_together (λ r. r.unlinked) is_unlinked tells_unlinked

@@ -1,12 +1,13 @@
 -- A catalogue in parts: each part has all authorities, and the bibliographic records whose keys are its own. The rules are this
 -- project's own.
-use Rattle.std.specs.Prelude.{◌≡◌, Bool, true, false, ◌&&◌, not, List, [], ◌∷◌, map, filter}
+use Rattle.std.specs.Prelude.{◌≡◌, Bool, true, false, ◌&&◌, not, All, List, [], ◌∷◌, map, filter}
 use Rattle.std.specs.Ordering.{is_lt}
 use Rattle.marc_types.specs.Order.{key_cmp, same_key}
 use Rattle.marc_types.specs.declared.key.Class.{Class}
 use Rattle.marc_types.specs.declared.key.Class.TheVariants.{Authority, Bibliographic}
 use Rattle.marc_types.specs.declared.key.Key.{Key}
 use Rattle.marc_types.specs.declared.entry.Entry.{Entry}
+use Rattle.entry_record.specs.History.{IsAdmitted}
 use Rattle.catalogue_rules.specs.State.{Row, State}
 use Rattle.catalogue_rules.specs.Settle.{arrival_of}
 
@@ -60,6 +61,26 @@ IsJobOf whole mine job = map arrival_of job ≡ map arrival_of (part_of mine who
 -- a job for each part, in the order of the parts
 abbrev pub AreJobsOf : List Entry → List Part → List (List Entry) → Type 0
 AreJobsOf whole parts jobs = map (λ job. map arrival_of job) jobs ≡ map (λ mine. map arrival_of (part_of mine whole)) parts
+
+-- a whole of admitted entries, and a job that takes those of a part
+pub record PartJob : Type 0 where
+  pub whole : List Entry
+  pub mine : Part
+  pub job : List Entry
+  pub admitted : All IsAdmitted whole
+  pub takes : IsJobOf whole mine job
+
+-- a whole of admitted entries, and a job for each part that the bounds make
+pub record InParts : Type 0 where
+  pub bounds : List Key
+  pub whole : List Entry
+  pub jobs : List (List Entry)
+  pub admitted : All IsAdmitted whole
+  pub take : AreJobsOf whole (ranges bounds) jobs
+
+-- a job that takes the authorities alone
+abbrev pub TakesNone : InParts → List Entry → Type 0
+TakesNone p none = IsJobOf p.whole no_records none
 
 -- of each key, two histories have its bibliographic entries and all authorities in one order, as a commit looks at them
 abbrev pub AgreeByKeys : List Entry → List Entry → Type 0

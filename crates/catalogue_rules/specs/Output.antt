@@ -1,6 +1,6 @@
 -- The export and the report of a state. Source of the exported form: ISO 2709, as the MARC 21 Specifications for Record
 -- Structure use it. The report's lines are this project's own.
-use Rattle.std.specs.Prelude.{ℕ, ◌+◌, Bool, true, ◌&&◌, not, List, [], ◌∷◌, ◌++◌, length, map, filter, codes, if◌then◌else◌}
+use Rattle.std.specs.Prelude.{ℕ, ◌+◌, Bool, true, false, ◌&&◌, not, List, [], ◌∷◌, ◌++◌, length, map, filter, codes, if◌then◌else◌}
 use Rattle.std.specs.List.{flat_map, enumerate_from, sum_by}
 use Rattle.std.specs.Option.{option_map_or}
 use Rattle.std.specs.Fmt.{decimal}
@@ -74,15 +74,26 @@ abbrev pub awaits_line : Class → Key → ℕ → KeptField → List ℕ
 awaits_line class key place h =
     option_map_or (λ awaited. line (codes "AWAITS" ++ place_words class key place h ++ then_word (key_text awaited))) h.tie.awaits []
 
+-- the lines of all ambiguous fields
+abbrev pub ambiguous_lines : State → List ℕ
+ambiguous_lines s = field_lines (ambiguous_line (linkable_authorities s)) s
+
+-- the lines of all fields that await a key
+abbrev pub awaiting_lines : State → List ℕ
+awaiting_lines s = field_lines awaits_line s
+
 -- the keys of all authorities that share the established form of one
 abbrev pub keys_sharing_form_of : Linkable → List Linkable → List Key
 keys_sharing_form_of c authorities = keys_of_linkable (filter (is_established c.established) authorities)
 
+-- a key is the least of two or more, which are in order
+abbrev pub is_least_of : Key → List Key → Bool
+is_least_of key (least ∷ other ∷ keys) = same_key key least
+is_least_of key _ = false
+
 -- the line of a group of two or more keys stands at its least key
 abbrev pub shared_line : Key → List Key → List ℕ
-shared_line key (least ∷ other ∷ keys) =
-    if same_key key least then line (codes "SHARED" ++ then_words (map key_text (least ∷ other ∷ keys))) else []
-shared_line key _ = []
+shared_line key keys = if is_least_of key keys then line (codes "SHARED" ++ then_words (map key_text keys)) else []
 
 -- a line for each established form that two or more authorities share
 abbrev pub shared_lines : List Linkable → List ℕ
@@ -117,8 +128,4 @@ total_line s =
 unfoldable pub report_of : State → List ℕ
 report_of s =
     let authorities = linkable_authorities s in
-    field_lines (ambiguous_line authorities) s
-    ++ shared_lines authorities
-    ++ cross_lines authorities
-    ++ field_lines awaits_line s
-    ++ total_line s
+    ambiguous_lines s ++ shared_lines authorities ++ cross_lines authorities ++ awaiting_lines s ++ total_line s

@@ -50,10 +50,6 @@ seat_alike keys p q known =
     regroup (class_rank p.class == class_rank q.class) (number_of same_key (keys_in p.class keys) p.key == number_of same_key (keys_in q.class keys) q.key) (p.field == q.field)
     ∙ ap (λ b. b && (p.field == q.field)) (key_alike keys p.class q.class p.key q.key known)
 
--- the seat of a place that has one is of a key that has a number
-pub seat_low : (keys : KeyLists) (p : Place) (seat : Seat) → IsSeatOf keys p seat → HasKey keys seat
-seat_low keys p seat at = subst (λ s. HasKey keys s) (sym at.is) (number_below same_key (keys_in p.class keys) p.key at.known)
-
 -- ---- exchanges
 
 module _ {T : Type 0} (same : T → T → Bool) (names : List T) (keys : KeyLists) where

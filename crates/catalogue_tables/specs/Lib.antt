@@ -1,11 +1,15 @@
+pub mod Answers
 pub mod Asked
 pub mod Choosing
 pub mod Following
+pub mod Gathering
+pub mod IndexLaws
 pub mod Known
 pub mod Lent
 pub mod Meant
 pub mod Rows
 pub mod Seam
+pub mod SeamLaws
 pub mod Sharing
 pub mod Stands
 pub mod Tables

@@ -1,15 +1,12 @@
 //! Authorities that a form may mean.
-ghost use Rattle.std.specs.Prelude.{◌≡◌, true, List};
-ghost use Rattle.std.specs.List.{IsDistinct, list_any};
-ghost use Rattle.marc_types.specs.declared.key.Key.{Key};
-ghost use Rattle.marc_types.specs.Order.{same_form, same_key};
+ghost use Rattle.std.specs.Prelude.{◌≡◌, true};
+ghost use Rattle.std.specs.List.{list_any};
+ghost use Rattle.marc_types.specs.Order.{same_form};
 ghost use Rattle.numbering.specs.Numbers.{is_known, number_of};
 ghost use Rattle.form_index.specs.Candidates.{IsAnswer};
-ghost use Rattle.form_index.specs.Index.{IsInOrder};
 ghost use Rattle.catalogue_rules.specs.Choice.{is_established};
-ghost use Rattle.linking_laws.specs.Tables.{IndexRow};
 ghost use Rattle.catalogue_tables.specs.Choosing.{AnswersUnderAny};
-ghost use Rattle.catalogue_tables.specs.Rows.{IsTold, TellsRows};
+ghost use Rattle.catalogue_tables.specs.Answers.{TellsCandidates};
 
 use crate::tables::CatalogueTables;
 use form_index::{Among, Candidates};
@@ -20,8 +17,7 @@ impl CatalogueTables {
     pub fn candidates(&self, form: &Form, among: Among) -> Candidates<'_>
         ensures numbers { is_known same_form self.now.forms form.now ≡ true
             → IsAnswer among (number_of same_form self.now.forms form.now) self.now.index result }
-        ensures told { (keys : List Key) (rows : List IndexRow) → IsDistinct same_key keys
-            → TellsRows among self.now.forms keys self.now.index rows → IsInOrder keys self.now.index → IsTold keys rows form.now result }
+        ensures told { TellsCandidates among self.now.forms self.now.index form.now result }
     {
         match self.forms.number_of(form) {
             Some(number) => self.index.candidates(number, among),

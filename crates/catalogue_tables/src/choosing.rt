@@ -1,14 +1,14 @@
 //! What an unlinked heading is to be linked to, by the tables alone: no record is visited, and no list of authorities is scanned.
-ghost use Rattle.std.specs.Prelude.{◌≡◌, ◌&&◌, ◌||◌, List, IfOk, option_and_then, unwrap_or};
-ghost use Rattle.std.specs.Option.{option_copied, option_map};
-ghost use Rattle.marc_types.specs.declared.key.Key.{Key};
+ghost use Rattle.std.specs.Prelude.{◌≡◌, IfOk, option_and_then, unwrap_or};
+ghost use Rattle.std.specs.Option.{option_copied};
 ghost use Rattle.entry_record.specs.Authority.{base_form};
 ghost use Rattle.entry_record.specs.Headings.{divided_form};
 ghost use Rattle.entry_record.specs.Prepared.{heading_base_form};
-ghost use Rattle.catalogue_rules.specs.Choice.{asks_base, by_base_form, by_form, by_full_form, choice};
-ghost use Rattle.catalogue_rules.specs.State.{State, kept_field, linkable_authorities, new_field};
-ghost use Rattle.catalogue_tables.specs.Choosing.{AnswersAs, AnswersUnderAny, TellsState, authorities_among, chosen_among, chosen_for, chosen_of, form_choice, heading_choice, unlinked};
+ghost use Rattle.catalogue_rules.specs.Choice.{asks_base};
+ghost use Rattle.catalogue_rules.specs.State.{kept_field};
+ghost use Rattle.catalogue_tables.specs.Choosing.{AnswersAs, AnswersUnderAny, chosen_among, chosen_of};
 ghost use Rattle.catalogue_tables.specs.Choosing.{first_taker, link_by_taker, named_taker, taker_by_number, taker_of_row, taker_under};
+ghost use Rattle.catalogue_tables.specs.Answers.{HoldsUnderAny, IsBaseAnswer, IsFullAnswer, form_answer, forms_answer, heading_answer, kind_answer};
 
 use crate::naming::named_key;
 use crate::tables::CatalogueTables;
@@ -135,7 +135,7 @@ impl CatalogueTables {
     ) -> Result<Option<Chosen>, NoMemory>
         requires { option_copied base ≡ heading_base_form class field.now }
         ensures { IfOk result (AnswersAs self.now.forms keys.now self.now.index
-            (λ all. option_map (chosen_for keys.now) (heading_choice all class (kept_field field.now tie.now)))) }
+            (heading_answer keys.now class (kept_field field.now tie.now))) }
     {
         let Some(form) = base else {
             return Ok(None);
@@ -157,7 +157,7 @@ impl CatalogueTables {
     ) -> Result<Chosen, NoMemory>
         requires { base.now ≡ base_form base.now.kind field.now }
         ensures { IfOk result (AnswersAs self.now.forms keys.now self.now.index
-            (λ all. chosen_for keys.now (choice all class base.now.kind (kept_field field.now tie.now)))) }
+            (kind_answer keys.now class base.now.kind (kept_field field.now tie.now))) }
     {
         match self.taker_by_number(alloc, keys, class, base.kind, field, tie)? {
             Some(taker) => Ok(link(taker, class, field, tie)),
@@ -179,7 +179,7 @@ impl CatalogueTables {
     ) -> Result<Chosen, NoMemory>
         requires { base.now ≡ base_form base.now.kind field.now }
         ensures { IfOk result (AnswersUnderAny self.now.forms self.now.index
-            (λ keys all. chosen_for keys (form_choice all class base.now.kind (kept_field field.now tie.now)))) }
+            (forms_answer class base.now.kind (kept_field field.now tie.now))) }
     {
         let divided = divided_form(alloc, class, field, base.kind)?;
         match self.by_full_form(class, field, base, divided.as_ref()) {
@@ -195,9 +195,8 @@ impl CatalogueTables {
         base: &Form,
         divided: Option<&Form>,
     ) -> Option<Chosen>
-        ensures { (keys : List Key) (s : State) → TellsState self.now.forms keys self.now.index s
-            → base.now ≡ base_form base.now.kind field.now → option_copied divided.entry ≡ divided_form base.now.kind class field.now
-            → result ≡ option_map (chosen_for keys) (by_full_form (linkable_authorities s) class base.now.kind (new_field field.now)) }
+        ensures { HoldsUnderAny self.now.forms self.now.index
+            (IsFullAnswer class field.now base.now (option_copied divided.entry) result) }
     {
         if takes_subdivisions(field.tag(), class) {
             self.by_form(full_or_base(base, divided), Among::All, true)
@@ -207,9 +206,8 @@ impl CatalogueTables {
     }
 
     fn by_base_form(&self, class: Class, field: &Field, tie: &Tie, base: &Form) -> Chosen
-        ensures { (keys : List Key) (s : State) → TellsState self.now.forms keys self.now.index s → base.now ≡ base_form base.now.kind field.now
-            → result ≡ unwrap_or
-            (option_map (chosen_for keys) (by_base_form (linkable_authorities s) class base.now.kind (kept_field field.now tie.now))) unlinked }
+        ensures { HoldsUnderAny self.now.forms self.now.index
+            (IsBaseAnswer class (kept_field field.now tie.now) base.now result) }
     {
         if !asks_base(class, field, tie) {
             return Chosen::Unlinked;
@@ -222,8 +220,7 @@ impl CatalogueTables {
 
     /// The choice by a form: those with it as their heading, and where there is none those with it as a see-from heading.
     fn by_form(&self, form: &Form, among: Among, whole: bool) -> Option<Chosen>
-        ensures { AnswersUnderAny self.now.forms self.now.index
-            (λ keys all. option_map (chosen_for keys) (by_form (authorities_among among all) whole form.now)) result }
+        ensures { AnswersUnderAny self.now.forms self.now.index (form_answer among whole form.now) result }
     {
         chosen_among(self.candidates(form, among), whole)
     }

@@ -1,21 +1,21 @@
 //! Seats from several lists, each once.
-ghost use Rattle.std.specs.Prelude.{◌≡◌, ◌||◌, OnOk, IfOk};
+ghost use Rattle.std.specs.Prelude.{OnOk, IfOk};
 ghost use Rattle.std.specs.List.{IsDistinct, list_any};
 ghost use Rattle.numbering.specs.Seats.{same_seat};
-ghost use Rattle.numbering.specs.declared.seat.Seat.{Seat as AnySeat};
 ghost use Rattle.postings.specs.Listed.{ListsEach};
 ghost use Rattle.wait_table.specs.Table.{waits};
 ghost use Rattle.catalogue_tables.specs.Lent.{shown_forms};
 ghost use Rattle.catalogue_tables.specs.Waiting.{asks_known, waits_for};
+ghost use Rattle.catalogue_tables.specs.Gathering.{NotesThose};
 
 use crate::tables::CatalogueTables;
 use marc_types::{Form, NoMemory};
 use numbering::{Numbering, Seat};
 use std::alloc::Global;
 
-// Notes the seats that aren't noted yet.
-fn gather(found: &mut Numbering<Seat>, alloc: Global, seats: &[Seat]) -> Result<(), NoMemory>
-    ensures { OnOk result ((s : AnySeat) → list_any (same_seat s) found.new ≡ (list_any (same_seat s) found.old || list_any (same_seat s) seats.now)) }
+/// Notes the seats that aren't noted yet, behind those that are.
+pub fn gather(found: &mut Numbering<Seat>, alloc: Global, seats: &[Seat]) -> Result<(), NoMemory>
+    ensures { OnOk result (NotesThose (λ s. list_any (same_seat s) seats.now) found.old found.new) }
 {
     for seat in seats {
         found.add(alloc, seat)?;
@@ -55,8 +55,8 @@ impl CatalogueTables {
         alloc: Global,
         forms: &[&Form],
     ) -> Result<(), NoMemory>
-        ensures { OnOk result ((s : AnySeat) → list_any (same_seat s) found.new
-            ≡ (list_any (same_seat s) found.old || list_any (λ form. asks_known self.now.forms (waits self.now.waits) s form.now) forms.now)) }
+        ensures { OnOk result
+            (NotesThose (λ s. list_any (λ form. asks_known self.now.forms (waits self.now.waits) s form.now) forms.now) found.old found.new) }
     {
         for form in forms {
             self.gather_form(found, alloc, form)?;
@@ -71,8 +71,7 @@ impl CatalogueTables {
         alloc: Global,
         form: &Form,
     ) -> Result<(), NoMemory>
-        ensures { OnOk result ((s : AnySeat) → list_any (same_seat s) found.new
-            ≡ (list_any (same_seat s) found.old || asks_known self.now.forms (waits self.now.waits) s form.now)) }
+        ensures { OnOk result (NotesThose (λ s. asks_known self.now.forms (waits self.now.waits) s form.now) found.old found.new) }
     {
         let Some(number) = self.forms.number_of(form) else {
             return Ok(());

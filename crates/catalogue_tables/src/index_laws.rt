@@ -1,20 +1,13 @@
 //! Laws of the index: how it follows the authorities of a catalogue. Each is the contract of a function that does nothing.
-ghost use Rattle.std.specs.Prelude.{◌≡◌, ℕ, ◌<◌, List, [], length, Option, Some, None};
-ghost use Rattle.std.specs.List.{IsDistinct};
+ghost use Rattle.std.specs.Prelude.{◌≡◌, ℕ, List, [], None};
 ghost use Rattle.marc_types.specs.declared.form.Form.{Form};
 ghost use Rattle.marc_types.specs.declared.key.Key.{Key};
-ghost use Rattle.marc_types.specs.declared.key.Class.TheVariants.{Authority};
-ghost use Rattle.marc_types.specs.Order.{same_form, same_key};
-ghost use Rattle.numbering.specs.Numbers.{IsNumberOf, Keeps};
 ghost use Rattle.form_index.specs.Index.{Indexed, IsInOrder, Taken, TakesOut, no_index, row_under};
-ghost use Rattle.form_index.specs.declared.among.Among.{Among};
-ghost use Rattle.entry_record.specs.Authority.{Linkable, is_bare};
 ghost use Rattle.catalogue_rules.specs.Settle.{Arrival};
-ghost use Rattle.catalogue_rules.specs.State.{State, linkable_authorities};
+ghost use Rattle.catalogue_rules.specs.State.{State};
 ghost use Rattle.catalogue_rules.specs.Valid.{IsAscending};
-ghost use Rattle.linking_laws.specs.Behind.{placed_in};
-ghost use Rattle.catalogue_tables.specs.Following.{FollowsAuthority, IsExchanged, IsWayBack, TellsAuthorities, authority_brought};
-ghost use Rattle.catalogue_tables.specs.Rows.{PutsAuthority, TellsRows, rows_among};
+ghost use Rattle.catalogue_tables.specs.Following.{FollowsAuthority, TellsAuthorities};
+ghost use Rattle.catalogue_tables.specs.IndexLaws.{FollowsByPutting, FollowsTheSecond, PlacingExchanges, StaysToldWithNumbers, StaysToldWithRows, TellsBehindAuthority, TellsBehindEntry, TellsRowsOfState, WayBackStays};
 
 /// An index without rows tells of nobody.
 pub fn a_blank_index_tells_of_nobody()
@@ -23,8 +16,7 @@ pub fn a_blank_index_tells_of_nobody()
 
 /// What the index tells stays while forms and keys get numbers.
 pub fn what_is_told_of_authorities_stays()
-    ensures { (names more : List Form) (keys many : List Key) (x : Indexed) (all : List Linkable) → IsDistinct same_key keys
-        → Keeps same_form names more → Keeps same_key keys many → TellsAuthorities names keys x all → TellsAuthorities more many x all }
+    ensures { StaysToldWithNumbers }
 {}
 
 /// A row that was taken out is nobody's.
@@ -40,54 +32,41 @@ pub fn a_missing_row_is_nobodys()
 
 /// A row that was put is the authority's whose forms it has.
 pub fn a_put_row_is_its_authoritys()
-    ensures { (names : List Form) (number : ℕ) (c : Linkable) (old new : Indexed)
-        → PutsAuthority names number c.established c.see_from (is_bare c) old new → FollowsAuthority names number (Some c) old new }
+    ensures { FollowsByPutting }
 {}
 
 /// Of two exchanges under one number the second counts.
 pub fn the_second_exchange_counts()
-    ensures { (names : List Form) (number : ℕ) (one other : Option Linkable) (old middle new : Indexed)
-        → FollowsAuthority names number one old middle → FollowsAuthority names number other middle new
-        → FollowsAuthority names number other old new }
+    ensures { FollowsTheSecond }
 {}
 
 /// An index that told of the authorities before tells of those now, once it has followed the one that has changed.
 pub fn the_index_follows_an_authority()
-    ensures { (names : List Form) (keys : List Key) (key : Key) (number : ℕ) (authority : Option Linkable) (all now : List Linkable) (old new : Indexed)
-        → IsNumberOf same_key keys key number → TellsAuthorities names keys old all → IsExchanged key authority all now
-        → FollowsAuthority names number authority old new → IsInOrder keys new → TellsAuthorities names keys new now }
+    ensures { TellsBehindAuthority }
 {}
 
 /// Once a record is in its place, or gone, the authority under its key is the one that it brought, and the others are as they were.
 pub fn placing_a_record_exchanges_its_authority()
-    ensures { (a : Arrival) (s : State) → IsAscending s.authorities
-        → IsExchanged a.key (authority_brought a) (linkable_authorities s) (linkable_authorities (placed_in Authority a s)) }
+    ensures { (a : Arrival) (s : State) → IsAscending s.authorities → PlacingExchanges a s }
 {}
 
 /// An index that told of a state's authorities tells of those of the state with an authority's record in its place, or gone, once it
 /// has followed the entry. Forms may have got numbers.
 pub fn the_index_follows_an_entry()
-    ensures { (names more : List Form) (keys : List Key) (number : ℕ) (a : Arrival) (s : State) (old new : Indexed) → IsDistinct same_key keys
-        → IsAscending s.authorities → IsNumberOf same_key keys a.key number → Keeps same_form names more
-        → TellsAuthorities names keys old (linkable_authorities s) → FollowsAuthority more number (authority_brought a) old new
-        → IsInOrder keys new → TellsAuthorities more keys new (linkable_authorities (placed_in Authority a s)) }
+    ensures { TellsBehindEntry }
 {}
 
 /// What the index tells stays where no row changes.
 pub fn what_is_told_stays_with_the_rows()
-    ensures { (names : List Form) (keys : List Key) (all : List Linkable) (old new : Indexed) → ((n : ℕ) → row_under n new ≡ row_under n old)
-        → IsInOrder keys new → TellsAuthorities names keys old all → TellsAuthorities names keys new all }
+    ensures { StaysToldWithRows }
 {}
 
 /// An index that tells of a state's authorities tells of their rows: of all, and of those with a bare heading.
 pub fn the_index_tells_the_rows_of_a_state()
-    ensures { (names : List Form) (keys : List Key) (x : Indexed) (s : State) (among : Among) → IsDistinct same_key keys
-        → IsAscending s.authorities → TellsAuthorities names keys x (linkable_authorities s)
-        → TellsRows among names keys x (rows_among among (linkable_authorities s)) }
+    ensures { TellsRowsOfState }
 {}
 
 /// A way back stays one while keys get numbers.
 pub fn a_way_back_stays()
-    ensures { (keys more : List Key) (number : ℕ) (row : Option Taken) (before now : Indexed) → IsDistinct same_key keys → Keeps same_key keys more
-        → number < length keys → IsWayBack keys number row before now → IsWayBack more number row before now }
+    ensures { WayBackStays }
 {}

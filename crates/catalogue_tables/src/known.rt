@@ -1,13 +1,7 @@
 //! What is known of an authority by its row alone: no record is looked at.
-ghost use Rattle.std.specs.Prelude.{◌≡◌, ◌<◌, ◌++◌, [], ◌∷◌, List, length, find, IfOk, OnOk};
-ghost use Rattle.std.specs.List.{IsDistinct};
-ghost use Rattle.marc_types.specs.Order.{same_key};
-ghost use Rattle.marc_types.specs.declared.key.Key.{Key};
-ghost use Rattle.form_index.specs.Order.{key_at};
-ghost use Rattle.catalogue_rules.specs.Choice.{has_key};
-ghost use Rattle.catalogue_rules.specs.State.{State, linkable_authorities};
-ghost use Rattle.catalogue_tables.specs.Following.{TellsAuthorities};
-ghost use Rattle.catalogue_tables.specs.Known.{IsKnownAs, forms_with};
+ghost use Rattle.std.specs.Prelude.{◌≡◌, ◌++◌, [], ◌∷◌, IfOk, OnOk};
+ghost use Rattle.catalogue_tables.specs.Known.{forms_with};
+ghost use Rattle.catalogue_tables.specs.Answers.{IsKnownUnderAny};
 
 use crate::tables::CatalogueTables;
 use marc_types::{Form, Kind, NoMemory, TryCopy};
@@ -58,9 +52,7 @@ impl CatalogueTables {
         alloc: Global,
         number: u32,
     ) -> Result<Option<KnownAuthority>, NoMemory>
-        ensures { IfOk result (λ known. (keys : List Key) (s : State) → IsDistinct same_key keys → number < length keys
-            → TellsAuthorities self.now.forms keys self.now.index (linkable_authorities s)
-            → IsKnownAs (find (has_key (key_at keys number)) (linkable_authorities s)) known) }
+        ensures { IfOk result (IsKnownUnderAny self.now.forms self.now.index number) }
     {
         // each form has one number
         let _count = self.forms.len();

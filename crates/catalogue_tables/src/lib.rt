@@ -2,6 +2,7 @@
 #![tactic(auto)]
 
 pub use choosing::{Chosen, heading_form};
+pub use gathering::gather;
 pub use known::KnownAuthority;
 pub use naming::named_key;
 pub use standing::Standing;

@@ -1,14 +1,14 @@
 //! Authorities that share the form of a heading, and those under whose heading one is found: by the index, without a scan.
-ghost use Rattle.std.specs.Prelude.{◌≡◌, ◌++◌, ◌||◌, not, filter, IfOk, OnOk, option_and_then, slice_get};
-ghost use Rattle.std.specs.List.{IsDistinct, list_any};
+ghost use Rattle.std.specs.Prelude.{◌≡◌, ◌++◌, not, filter, IfOk, OnOk, option_and_then, slice_get};
 ghost use Rattle.std.specs.List.Sorted.{IsStrictlySortedBy};
 ghost use Rattle.std.specs.Option.{option_copied, option_to_list};
-ghost use Rattle.marc_types.specs.declared.key.Key.{Key as AnyKey};
 ghost use Rattle.marc_types.specs.Order.{key_cmp, same_key};
-ghost use Rattle.form_index.specs.Index.{IsInOrder, row_under};
+ghost use Rattle.form_index.specs.Index.{row_under};
 ghost use Rattle.catalogue_tables.specs.Choosing.{AnswersAs, number_known};
 ghost use Rattle.catalogue_tables.specs.Lent.{keys_at};
-ghost use Rattle.catalogue_tables.specs.Sharing.{AreHeaded, established_in, is_headed_by_any, keys_crossing, keys_sharing, shown_keys};
+ghost use Rattle.catalogue_tables.specs.Sharing.{AreHeaded, established_in, keys_crossing, keys_sharing, shown_keys};
+ghost use Rattle.catalogue_tables.specs.Answers.{AreHeadedByAny};
+ghost use Rattle.catalogue_tables.specs.Gathering.{AddsKeys};
 
 use crate::tables::CatalogueTables;
 use form_index::{Among, Candidates, RowForms};
@@ -59,8 +59,7 @@ fn add_at<'a>(
     keys: &'a Numbering<Key>,
     number: u32,
 ) -> Result<(), NoMemory>
-    ensures { OnOk result ((k : AnyKey) → list_any (same_key k) (shown_keys found.new.keys)
-        ≡ (list_any (same_key k) (shown_keys found.old.keys) || list_any (same_key k) (option_to_list (slice_get keys.now number)))) }
+    ensures { OnOk result (AddsKeys (shown_keys found.old.keys) (option_to_list (slice_get keys.now number)) (shown_keys found.new.keys)) }
 {
     let Some(key) = keys.at(number) else {
         return Ok(());
@@ -74,8 +73,7 @@ fn add_keys<'a>(
     keys: &'a Numbering<Key>,
     numbers: &[u32],
 ) -> Result<(), NoMemory>
-    ensures { OnOk result ((k : AnyKey) → list_any (same_key k) (shown_keys found.new.keys)
-        ≡ (list_any (same_key k) (shown_keys found.old.keys) || list_any (same_key k) (keys_at keys.now numbers.now))) }
+    ensures { OnOk result (AddsKeys (shown_keys found.old.keys) (keys_at keys.now numbers.now) (shown_keys found.new.keys)) }
 {
     for number in numbers {
         add_at(found, keys, *number)?;
@@ -155,8 +153,7 @@ impl CatalogueTables {
         keys: &'a Numbering<Key>,
         forms: &[u32],
     ) -> Result<BTreeSet<&'a Key>, NoMemory>
-        ensures { IfOk result (λ found. IsDistinct same_key keys.now → IsInOrder keys.now self.now.index
-            → (k : AnyKey) → list_any (same_key k) (shown_keys found.keys) ≡ is_headed_by_any keys.now self.now.index forms.now k) }
+        ensures { IfOk result (λ found. AreHeadedByAny keys.now self.now.index forms.now (shown_keys found.keys)) }
     {
         let mut found = BTreeSet::new(alloc);
         for form in forms {

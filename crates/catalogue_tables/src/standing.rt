@@ -1,17 +1,13 @@
 //! How a field stands, by the tables alone: no record is visited, and no list of authorities is scanned.
-ghost use Rattle.std.specs.Prelude.{◌≡◌, ◌++◌, Bool, List, IfOk, OnOk, slice_get};
-ghost use Rattle.std.specs.Option.{option_copied, option_or, option_to_list};
-ghost use Rattle.marc_types.specs.declared.entry.Tie.{Tie as AnyTie};
-ghost use Rattle.marc_types.specs.declared.key.Key.{Key as AnyKey};
+ghost use Rattle.std.specs.Prelude.{◌≡◌, ◌++◌, Bool, IfOk, OnOk, slice_get};
+ghost use Rattle.std.specs.Option.{option_copied, option_to_list};
 ghost use Rattle.entry_record.specs.Authority.{base_form};
-ghost use Rattle.entry_record.specs.Headings.{divided_form};
-ghost use Rattle.catalogue_rules.specs.Choice.{by_base_form, by_form, by_full_form, choice};
-ghost use Rattle.catalogue_rules.specs.Receipt.{standing_by};
-ghost use Rattle.catalogue_rules.specs.State.{State, kept_field, linkable_authorities};
-ghost use Rattle.catalogue_tables.specs.Choosing.{AnswersAs, TellsState, authorities_among, form_choice};
+ghost use Rattle.catalogue_rules.specs.State.{kept_field};
+ghost use Rattle.catalogue_tables.specs.Choosing.{AnswersAs};
 ghost use Rattle.catalogue_tables.specs.Lent.{AreGiven, keys_at, keys_of};
-ghost use Rattle.catalogue_tables.specs.Meant.{AreMeant, numbers_in, standing_among};
+ghost use Rattle.catalogue_tables.specs.Meant.{numbers_in, standing_among};
 ghost use Rattle.catalogue_tables.specs.Stands.{field_standing, stands_as};
+ghost use Rattle.catalogue_tables.specs.Answers.{AreMeantByBase, AreMeantByForm, AreMeantByForms, AreMeantInFull, HoldsUnderAny, forms_standing, kind_standing};
 
 use crate::choosing::{asks_base, divided_form, full_or_base, heading_form};
 use crate::tables::CatalogueTables;
@@ -115,7 +111,7 @@ impl CatalogueTables {
     ) -> Result<Standing, NoMemory>
         requires { base.now ≡ base_form base.now.kind field.now }
         ensures { IfOk result (AnswersAs self.now.forms keys.now self.now.index
-            (λ all. stands_as (standing_by (choice all class base.now.kind (kept_field field.now tie.now))))) }
+            (kind_standing class base.now.kind (kept_field field.now tie.now))) }
     {
         match self.taker_by_number(alloc, keys, class, base.kind, field, tie)? {
             // an authority that could take the field is no link yet
@@ -135,7 +131,7 @@ impl CatalogueTables {
     ) -> Result<Standing, NoMemory>
         requires { base.now ≡ base_form base.now.kind field.now }
         ensures { IfOk result (AnswersAs self.now.forms keys.now self.now.index
-            (λ all. stands_as (standing_by (form_choice all class base.now.kind (kept_field field.now tie.now))))) }
+            (forms_standing class base.now.kind (kept_field field.now tie.now))) }
     {
         let divided = divided_form(alloc, class, field, base.kind)?;
         let meant = self.meant(class, field, tie, base, divided.as_ref());
@@ -152,10 +148,8 @@ impl CatalogueTables {
         base: &Form,
         divided: Option<&Form>,
     ) -> &[u32]
-        ensures { (keys : List AnyKey) (s : State) → TellsState self.now.forms keys self.now.index s
-            → base.now ≡ base_form base.now.kind field.now → option_copied divided.entry ≡ divided_form base.now.kind class field.now
-            → AreMeant keys (option_or (by_full_form (linkable_authorities s) class base.now.kind (kept_field field.now tie.now))
-            (by_base_form (linkable_authorities s) class base.now.kind (kept_field field.now tie.now))) result.now }
+        ensures { HoldsUnderAny self.now.forms self.now.index
+            (AreMeantByForms class (kept_field field.now tie.now) base.now (option_copied divided.entry) result.now) }
     {
         let full = self.meant_in_full(class, field, base, divided);
         if full.is_empty() {
@@ -172,9 +166,8 @@ impl CatalogueTables {
         base: &Form,
         divided: Option<&Form>,
     ) -> &[u32]
-        ensures { (keys : List AnyKey) (s : State) (tie : AnyTie) → TellsState self.now.forms keys self.now.index s
-            → base.now ≡ base_form base.now.kind field.now → option_copied divided.entry ≡ divided_form base.now.kind class field.now
-            → AreMeant keys (by_full_form (linkable_authorities s) class base.now.kind (kept_field field.now tie)) result.now }
+        ensures { HoldsUnderAny self.now.forms self.now.index
+            (AreMeantInFull class field.now base.now (option_copied divided.entry) result.now) }
     {
         if takes_subdivisions(field.tag(), class) {
             self.meant_by(full_or_base(base, divided), Among::All)
@@ -184,9 +177,8 @@ impl CatalogueTables {
     }
 
     fn meant_by_base(&self, class: Class, field: &Field, tie: &Tie, base: &Form) -> &[u32]
-        ensures { (keys : List AnyKey) (s : State) → TellsState self.now.forms keys self.now.index s
-            → base.now ≡ base_form base.now.kind field.now
-            → AreMeant keys (by_base_form (linkable_authorities s) class base.now.kind (kept_field field.now tie.now)) result.now }
+        ensures { HoldsUnderAny self.now.forms self.now.index
+            (AreMeantByBase class (kept_field field.now tie.now) base.now result.now) }
     {
         if asks_base(class, field, tie) {
             self.meant_by(base, Among::Bare)
@@ -197,8 +189,7 @@ impl CatalogueTables {
 
     /// Those with the form as their heading, and where there is none those with it as a see-from heading.
     fn meant_by(&self, form: &Form, among: Among) -> &[u32]
-        ensures { (whole : Bool) (keys : List AnyKey) (s : State) → TellsState self.now.forms keys self.now.index s
-            → AreMeant keys (by_form (authorities_among among (linkable_authorities s)) whole form.now) result.now }
+        ensures { (whole : Bool) → HoldsUnderAny self.now.forms self.now.index (AreMeantByForm among whole form.now result.now) }
     {
         numbers_in(self.candidates(form, among))
     }

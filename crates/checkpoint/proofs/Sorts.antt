@@ -99,9 +99,6 @@ no_sort payload behind byte split a b c Begin is = a (sym (cons_first _ _ _ _ (i
 no_sort payload behind byte split a b c (Rows rows) is = b (sym (cons_first _ _ _ _ (is.written ∙ split)))
 no_sort payload behind byte split a b c (End entries count) is = c (sym (cons_first _ _ _ _ (is.written ∙ split)))
 
-pub part_behind : (payload behind : List ℕ) (byte named : ℕ) (part : Part) → payload ≡ byte ∷ behind → byte ≡ named → IsPartOf (named ∷ behind) part → IsPartOf payload part
-part_behind payload behind byte named part split is here = subst (λ xs. IsPartOf xs part) (ap (λ b. b ∷ behind) (sym is) ∙ sym split) here
-
 pub none_behind : (payload behind : List ℕ) (byte named : ℕ) (fault : PartFault) → payload ≡ byte ∷ behind → byte ≡ named → IsNoPart (named ∷ behind) fault
     → IsNoPart payload fault
 none_behind payload behind byte named fault split is here = subst (λ xs. IsNoPart xs fault) (ap (λ b. b ∷ behind) (sym is) ∙ sym split) here

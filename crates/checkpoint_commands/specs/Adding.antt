@@ -1,14 +1,19 @@
 -- A checkpoint that is put behind those of a log. The rules are this project's own.
-use Rattle.std.specs.Prelude.{◌≡◌, ◌≢◌, ◌⊎◌, ℕ, ◌<◌, true, List, length, Option, Some, None, is_some, Err}
+use Rattle.std.specs.Prelude.{◌≡◌, ◌≢◌, ◌⊎◌, ℕ, ◌<◌, true, List, length, Option, Some, None, is_some, Result, Err, MatchResult}
 use Rattle.marc_types.specs.declared.entry.Entry.{Entry}
 use Rattle.outside.specs.Disk.{DiskView}
+use Rattle.outside.specs.declared.disk.Disk.{Ghosts}
 use Rattle.outside.specs.Fault.{Rose}
 use Rattle.commit_journal.specs.declared.format.TheConstants.{BLANK_LENGTH}
+use Rattle.commit_journal.specs.declared.found.FoundLog.{FoundLog}
+use Rattle.commit_journal.specs.declared.frame.Frame.{Frame}
 use Rattle.commit_journal.specs.Log.{frames_of, walk_of, version_of}
-use Rattle.commit_journal.specs.Journal.{EndsAt, Unwritten}
+use Rattle.commit_journal.specs.Journal.{EndsAt, IsFound, Unwritten}
+use Rattle.commit_journal.specs.Versions.{number_of}
 use Rattle.catalogue_rules.specs.Settle.{state_of}
 use Rattle.durable_catalogue.specs.declared.fault.OpenFault.{OpenFault}
 use Rattle.durable_catalogue.specs.declared.fault.OpenFault.TheVariants.{DeviceFault, NoMemory}
+use Rattle.checkpoint.specs.Points.{IsPointOf}
 use Rattle.checkpoint.specs.declared.point.Point.{Point}
 use Rattle.restoring.specs.Writing.{HasPoint}
 use Rattle.checkpoint_commands.specs.PointLogs.{IsPointLog, IsUntaken, IsLeftAlone}
@@ -49,3 +54,21 @@ pub record IsNotAdded (old new : DiskView) (why : OpenFault) : Type 0 where
   pub kept : why ≢ DeviceFault → why ≢ NoMemory → Unwritten old new
   pub alone : why ≢ DeviceFault → IsLeftAlone old new
   pub cause : why ≡ DeviceFault → Rose old.faults new.faults
+
+-- so it is whether a disk is answered or handed back
+abbrev pub IsAddingEither : {D : Type 0} → (D → DiskView) → List Entry → D → Result D (D × OpenFault) → Type 0
+IsAddingEither seen history before result = MatchResult result (λ after. IsAdding history (seen before) (seen after)) (λ e. IsAdding history (seen before) (seen e.0))
+
+-- where a disk tells a log that is none of checkpoints
+abbrev pub WhereNoPoints : DiskView → Type 0 → Type 0
+WhereNoPoints old P = (log : List ℕ) → old.content ≡ Some log → ((last : Option Point) → IsPointLog last log → ⊥) → P
+
+module _ {D : Type 0} {disk : Ghosts D} where
+  -- on whatever disk a log was found
+  abbrev pub WhereFound : FoundLog D disk → (D → Type 0) → Type 0
+  WhereFound log P = (before : D) (frames : List Frame) → IsFound frames log.place (number_of log.version) (disk.seen before) (disk.seen log.disk) → P before
+
+  -- and is one of checkpoints
+  abbrev pub WherePoints : FoundLog D disk → (D → Type 0) → Type 0
+  WherePoints log P = (before : D) (frames : List Frame) (last : Option Point) → IsFound frames log.place (number_of log.version) (disk.seen before) (disk.seen log.disk)
+      → IsPointOf frames last → P before

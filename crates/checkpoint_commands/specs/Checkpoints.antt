@@ -10,7 +10,7 @@ use Rattle.durable_catalogue.specs.Logs.{HasHistory}
 use Rattle.console_lines.specs.Ends.{Outcome, IsTold, TellsNoFault, console_unwritten}
 use Rattle.console_lines.specs.Lines.{checkpoint_line}
 use Rattle.console_lines.specs.declared.end.End.{End}
-use Rattle.console_lines.specs.declared.end.End.TheVariants.{Done, Refused, Unwritten, Told}
+use Rattle.console_lines.specs.declared.end.End.TheVariants.{Done, Refused, Unwritten, Told, BroughtInPart, Differ}
 use Rattle.console_lines.specs.declared.end.Unwritten.TheVariants.{Out, Side, Pages, Console}
 use Rattle.console_lines.specs.declared.fault.Fault.{Fault}
 use Rattle.console_lines.specs.declared.fault.Fault.TheVariants.{Usage, Input, Device, NotAJournal, Full, Memory, OldVersion, OtherHistory}
@@ -37,6 +37,8 @@ EndsCheckpoint (Told Full) = Unit {0}
 EndsCheckpoint (Told Memory) = Unit {0}
 EndsCheckpoint (Told OldVersion) = Unit {0}
 EndsCheckpoint (Told OtherHistory) = ⊥
+EndsCheckpoint BroughtInPart = ⊥
+EndsCheckpoint Differ = ⊥
 
 -- What comes of POINT: it is untouched; or the journal has a history, within the room's limits, of which a checkpoint is put behind those of
 -- POINT, as far as it comes, and the journal is durable.

@@ -13,7 +13,7 @@ use Rattle.durable_catalogue.specs.Logs.{HasHistory}
 use Rattle.console_lines.specs.Ends.{Outcome, IsTold, IsSilent, TellsNoFault, out_unwritten, side_unwritten, console_unwritten}
 use Rattle.console_lines.specs.Lines.{resumed_line}
 use Rattle.console_lines.specs.declared.end.End.{End}
-use Rattle.console_lines.specs.declared.end.End.TheVariants.{Done, Refused, Unwritten, Told}
+use Rattle.console_lines.specs.declared.end.End.TheVariants.{Done, Refused, Unwritten, Told, BroughtInPart, Differ}
 use Rattle.console_lines.specs.declared.end.Unwritten.TheVariants.{Out, Side, Pages, Console}
 use Rattle.console_lines.specs.declared.fault.Fault.{Fault}
 use Rattle.console_lines.specs.declared.fault.Fault.TheVariants.{Usage, Input, Device, NotAJournal, Full, Memory, OldVersion, OtherHistory}
@@ -42,6 +42,8 @@ EndsQuick report (Told Full) = Unit {0}
 EndsQuick report (Told Memory) = Unit {0}
 EndsQuick report (Told OldVersion) = Unit {0}
 EndsQuick report (Told OtherHistory) = ⊥
+EndsQuick report BroughtInPart = ⊥
+EndsQuick report Differ = ⊥
 
 -- The state that a history and the last whole checkpoint of a log make, of whose entries so many are taken: the state with which the
 -- checkpoint begins it, gone on with by the entries behind those. Where the checkpoint is the history's own, or there is none that can be

@@ -1,15 +1,11 @@
 //! A checkpoint that is put behind those of a log.
-ghost use Rattle.std.specs.Prelude.{◌≡◌, ◌≤◌, ℕ, [], List, Option, Some, IfOk, IfErr, MatchResult};
-ghost use Rattle.commit_journal.specs.declared.frame.Frame.{Frame};
-ghost use Rattle.commit_journal.specs.Journal.{IsFound};
-ghost use Rattle.commit_journal.specs.Versions.{number_of};
-ghost use Rattle.checkpoint.specs.Points.{IsPointOf};
-ghost use Rattle.checkpoint.specs.declared.point.Point.{Point};
+ghost use Rattle.std.specs.Prelude.{◌≡◌, ◌≤◌, [], IfOk, IfErr, MatchResult};
 ghost use Rattle.durable_catalogue.specs.declared.fault.OpenFault.TheVariants.{DeviceFault};
-ghost use Rattle.checkpoint_commands.specs.PointLogs.{IsOnlyRead, IsPointLog};
-ghost use Rattle.checkpoint_commands.specs.Adding.{IsAdded, IsAdding, IsNotAdded};
+ghost use Rattle.checkpoint_commands.specs.PointLogs.{IsOnlyRead};
+ghost use Rattle.checkpoint_commands.specs.Adding.{IsAdded, IsAddingEither, IsNotAdded, WhereFound, WhereNoPoints, WherePoints};
 
-use crate::last_point::last_of;
+use crate::last_point::find_points;
+use crate::taking::last_known;
 use catalogue_core::Catalogue;
 use commit_journal::{FoundLog, Version};
 use durable_catalogue::{OpenFault, open_fault};
@@ -25,16 +21,9 @@ fn add_behind<D: Disk>(
 ) -> Result<D, (D, OpenFault)>
     requires staged { core.now.staged ≡ [] }
     requires newest { found.version ≡ Version.Two }
-    ensures added { (before : D) (frames : List Frame) (last : Option Point)
-        → IsFound frames found.place (number_of found.version) (D.seen before) (D.seen found.disk) → IsPointOf frames last
-        → IfOk result (λ after. IsAdded core.now.history (D.seen before) (D.seen after)) }
-    ensures adding { (before : D) (frames : List Frame) (last : Option Point)
-        → IsFound frames found.place (number_of found.version) (D.seen before) (D.seen found.disk) → IsPointOf frames last
-        → MatchResult result (λ after. IsAdding core.now.history (D.seen before) (D.seen after))
-        (λ e. IsAdding core.now.history (D.seen before) (D.seen e.0)) }
-    ensures not_added { (before : D) (frames : List Frame)
-        → IsFound frames found.place (number_of found.version) (D.seen before) (D.seen found.disk)
-        → IfErr result (λ e. IsNotAdded (D.seen before) (D.seen e.0) e.1) }
+    ensures added { WherePoints found (λ before. IfOk result (λ after. IsAdded core.now.history (D.seen before) (D.seen after))) }
+    ensures adding { WherePoints found (λ before. IsAddingEither D.seen core.now.history before result) }
+    ensures not_added { WhereFound found (λ before. IfErr result (λ e. IsNotAdded (D.seen before) (D.seen e.0) e.1)) }
     ensures later { MatchResult result (λ after. (D.seen found.disk).faults ≤ (D.seen after).faults)
         (λ e. (D.seen found.disk).faults ≤ (D.seen e.0).faults) }
 {
@@ -59,18 +48,16 @@ fn add_behind<D: Disk>(
 pub fn add_point<D: Disk>(alloc: Global, disk: D, core: &Catalogue) -> Result<D, (D, OpenFault)>
     requires { core.now.staged ≡ [] }
     ensures added { IfOk result (λ after. IsAdded core.now.history (D.seen disk) (D.seen after)) }
-    ensures adding { MatchResult result (λ after. IsAdding core.now.history (D.seen disk) (D.seen after))
-        (λ e. IsAdding core.now.history (D.seen disk) (D.seen e.0)) }
+    ensures adding { IsAddingEither D.seen core.now.history disk result }
     ensures not_added { IfErr result (λ e. IsNotAdded (D.seen disk) (D.seen e.0) e.1) }
 
     // What is no log of checkpoints is only read.
-    ensures alone { (log : List ℕ) → (D.seen disk).content ≡ Some log → ((last : Option Point) → IsPointLog last log → ⊥)
-        → IfErr result (λ e. IsOnlyRead (e.1 ≡ DeviceFault) (D.seen disk) (D.seen e.0)) }
+    ensures alone { WhereNoPoints (D.seen disk) (IfErr result (λ e. IsOnlyRead (e.1 ≡ DeviceFault) (D.seen disk) (D.seen e.0))) }
     ensures later { MatchResult result (λ after. (D.seen disk).faults ≤ (D.seen after).faults)
         (λ e. (D.seen disk).faults ≤ (D.seen e.0).faults) }
 {
-    match FoundLog::find(alloc, disk) {
-        Ok((found, frames)) => match last_of(alloc, found.version(), frames) {
+    match find_points(alloc, disk) {
+        Ok((found, known)) => match last_known(found.version(), known) {
             Ok(_last) => add_behind(alloc, found, core),
             Err(fault) => Err((found.leave(), fault)),
         },

@@ -1,41 +1,39 @@
-//! The last whole checkpoint of a log.
-ghost use Rattle.std.specs.Prelude.{◌≡◌, ◌≢◌, List, ℕ, Some, IfOk, IfErr, IfSome, OnOk, IsErrOf};
+//! The checkpoints of a log, found, and the last whole one.
+ghost use Rattle.std.specs.Prelude.{◌≡◌, List, ℕ, Some, IfOk, IfErr, IfSome, IsErrOf};
 ghost use Rattle.outside.specs.Fault.{Rose};
-ghost use Rattle.commit_journal.specs.Versions.{number_of};
+ghost use Rattle.commit_journal.specs.Begun.{IsUnfound};
 ghost use Rattle.durable_catalogue.specs.declared.fault.OpenFault.TheVariants.{DeviceFault};
-ghost use Rattle.checkpoint.specs.Points.{IsPointOf};
 ghost use Rattle.restoring.specs.Resuming.{IsInOrder};
-ghost use Rattle.checkpoint_commands.specs.PointLogs.{AreUntaken, IsOnlyRead, IsPointLog, IsUntaken};
+ghost use Rattle.checkpoint_commands.specs.PointLogs.{IsOnlyRead, IsPointLog, IsUntaken};
+ghost use Rattle.checkpoint_commands.specs.Taking.{FindsPoints};
 
-use crate::taking::{PointTaker, last_known};
-use checkpoint::{Point, PointFault, read_point};
-use commit_journal::{Frames, Version, find_each};
+use crate::taking::{Known, PointTaker, last_known};
+use checkpoint::Point;
+use commit_journal::{BegunLog, FoundLog, JournalFault, find_each};
 use durable_catalogue::{OpenFault, open_fault};
 use outside::Disk;
 use restoring::laws::a_found_checkpoint_is_in_order;
 use std::alloc::Global;
 
-/// The last whole checkpoint of a log of that version with these frames. A payload that is no part of one comes before an old version.
-pub(crate) fn last_of(
+/// Finds a log of checkpoints, and tells what is known of its frames. It writes nothing. A frame is let go before the next is read. A fault
+/// hands the disk back.
+pub(crate) fn find_points<D: Disk>(
     alloc: Global,
-    version: Version,
-    frames: Frames,
-) -> Result<Option<Point>, OpenFault>
-    ensures last { IfOk result (IsPointOf frames) }
-    ensures order { IfOk result (λ last. IfSome last IsInOrder) }
-    ensures newest { OnOk result (version ≡ Version.Two) }
-    ensures untaken { IfErr result (AreUntaken (number_of version) frames) }
+    disk: D,
+) -> Result<(FoundLog<D>, Known), (D, JournalFault)>
+    ensures found { IfOk result (λ r. FindsPoints r.1 r.0 (D.seen disk)) }
+    ensures unfound { IfErr result (λ e. IsUnfound (D.seen disk) (D.seen e.0) e.1) }
 {
-    a_found_checkpoint_is_in_order();
-    let last = match read_point(alloc, frames) {
-        Ok(last) => last,
-        Err(PointFault::BadPoint(gate)) => return Err(OpenFault::NotAJournal(gate)),
-        Err(PointFault::NoMemory) => return Err(OpenFault::NoMemory),
-    };
-    if version != Version::Two {
-        return Err(OpenFault::OldVersion);
+    match BegunLog::begin(alloc, disk) {
+        Ok(begun) => {
+            let mut taker = PointTaker::new();
+            match begun.find(alloc, &mut taker) {
+                Ok(found) => Ok((found, taker.known)),
+                Err(unfound) => Err(unfound),
+            }
+        }
+        Err(unfound) => Err(unfound),
     }
-    Ok(last)
 }
 
 /// Reads the last whole checkpoint of a log, and writes nothing. A frame is let go before the next is read.

@@ -76,7 +76,7 @@ impl PointTaker {
 impl FrameTaker for PointTaker {
     ghost use Rattle.checkpoint_commands.specs.Taking.{IsKnown};
 
-    ghost has = { λ taker frames. IsKnown frames taker.known };
+    ghost has = { λ begun taker frames. IsKnown frames taker.known };
 
     fn take(&mut self, alloc: Global, frame: Frame) -> Result<(), AllocError> {
         let before = mem::replace(&mut self.known, Known::BadAt(0));

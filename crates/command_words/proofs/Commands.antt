@@ -19,7 +19,7 @@ use Rattle.command_words.specs.Topics.{topic_of}
 use Rattle.marc_types.specs.declared.form.Kind.{Kind}
 use Rattle.command_words.specs.Look.{Look, HeadingRange, most_headings, kind_of}
 use Rattle.command_words.specs.Look as look
-use Rattle.command_words.specs.Command.{Command, Pass, Run, Load, Browse, Export, Report, Make, Verify, VerifyPoint, VerifyDigest, Matches, Holdings, Headings, Worklist, Migrate, Salvage, Checkpoint, Quick, QuickReport, Read, ReadHoldings, ReadWorklist, Refused, Help, Version, is_name, differ, split_at_equals, library_of, are_libraries, is_free, number_upto, greatest_number, is_digest, are_two_names, are_three_names, are_four_names, are_three_alone, are_four_alone, as_pass, as_run, as_load, as_browse, as_export, as_report, as_make, as_verify, as_migrate, as_salvage, as_matches, as_holdings, as_headings, as_worklist, as_checkpoint, as_quick, is_looking, looking, unheld, as_reading, as_refused, as_help, alone, is_version_flag, is_help_flag, only_telling, over_input, over_journal, behind_verb, asks_how, has_no_limits, asked_of, is_large, behind_large, command_of, words_of_files, libraries_of, file_count, names_of, AreNames, IsBounded, IsRange}
+use Rattle.command_words.specs.Command.{Command, Pass, Run, Load, Browse, Export, Report, Make, Verify, VerifyPoint, VerifyDigest, Matches, Holdings, Headings, Worklist, Migrate, Salvage, Checkpoint, Quick, QuickReport, Read, ReadHoldings, ReadWorklist, Refused, Totals, Join, Split, Help, Version, is_name, differ, split_at_equals, library_of, are_libraries, is_free, number_upto, greatest_number, is_digest, are_two_names, are_three_names, are_four_names, are_three_alone, are_four_alone, as_pass, as_run, as_load, as_browse, as_export, as_report, as_make, as_verify, as_migrate, as_salvage, as_matches, as_holdings, as_headings, as_worklist, as_checkpoint, as_quick, is_looking, looking, unheld, as_reading, as_refused, as_totals, is_export, as_join, most_parts, as_split, as_help, alone, is_version_flag, is_help_flag, only_telling, over_parts, over_input, over_journal, behind_verb, asks_how, takes_no_large, asked_of, is_large, behind_large, command_of, words_of_files, libraries_of, file_count, names_of, AreNames, AreExports, IsBounded, IsRange}
 
 -- a test and what it lets through
 pub if_some : {A : Type 0} (good : Bool) (a b : A) → (if good then Some a else None) ≡ Some b → (good ≡ true) × (a ≡ b)
@@ -394,6 +394,47 @@ worklist_is verb (journal ∷ list ∷ page ∷ code ∷ []) c is =
     (without_files (verb ∷ journal ∷ list ∷ page ∷ code ∷ []) _ refl refl (three_alone journal list page (and_parts (are_three_alone journal list page) _ parts.0).0) tt)
 worklist_is verb (journal ∷ list ∷ page ∷ code ∷ other ∷ rest) c is = cc
 
+totals_is : (verb : List ℕ) (words : List (List ℕ)) (c : Command) → as_totals words ≡ Some c → IsCommand (verb ∷ words) c
+totals_is verb [] c is = cc
+totals_is verb (first ∷ reports) c is =
+    let parts = if_some (is_name first && nat_le 1 (length reports) && list_all is_name reports) (Totals first reports) c is in
+    let some = (and_parts (is_name first) (nat_le 1 (length reports)) (and_parts _ (list_all is_name reports) parts.0).0).1 in
+    subst (IsCommand (verb ∷ first ∷ reports)) parts.1 (without_files (verb ∷ first ∷ reports) _ refl refl tt (grind (arith, nat_tests, some)))
+
+-- exports that aren't empty names differ from OUT
+exports_apart : (out : List ℕ) (exports : List (List ℕ)) → list_all (is_export out) exports ≡ true → All (λ export. export ≢ out) exports
+exports_apart out [] good = All-nil (λ export. export ≢ out)
+exports_apart out (export ∷ exports) good =
+    let both = and_parts (is_export out export) (list_all (is_export out) exports) good in
+    All-cons (λ other. other ≢ out) export exports (apart export out (and_parts (is_name export) (differ export out) both.0).1) (exports_apart out exports both.1)
+
+join_is : (verb : List ℕ) (words : List (List ℕ)) (c : Command) → as_join words ≡ Some c → IsCommand (verb ∷ words) c
+join_is verb [] c is = cc
+join_is verb (out ∷ exports) c is =
+    let parts = if_some (is_name out && nat_le 1 (length exports) && list_all (is_export out) exports) (Join out exports) c is in
+    let all = and_parts (is_name out && nat_le 1 (length exports)) (list_all (is_export out) exports) parts.0 in
+    let each = and_parts (is_name out) (nat_le 1 (length exports)) all.0 in
+    let some = each.1 in
+    let bounded : AreExports out exports = (grind (arith, nat_tests, some), exports_apart out exports all.1) in
+    subst (IsCommand (verb ∷ out ∷ exports)) parts.1 (without_files (verb ∷ out ∷ exports) _ refl refl (named out each.0, tt, tt) bounded)
+
+split_is : (verb : List ℕ) (words : List (List ℕ)) (c : Command) → as_split words ≡ Some c → IsCommand (verb ∷ words) c
+split_is verb [] c is = cc
+split_is verb (count ∷ []) c is = cc
+split_is verb (count ∷ prefix ∷ files) c is =
+    let first = and_then_some _ (number_upto most_parts count) c is in
+    let parts = if_some (nat_le 2 first.0 && is_name prefix && are_libraries files) (Split first.0 prefix (length files)) c first.2 in
+    let all = and_parts (nat_le 2 first.0 && is_name prefix) (are_libraries files) parts.0 in
+    let two = (and_parts (nat_le 2 first.0) (is_name prefix) all.0).0 in
+    let number = few files all.1 in
+    subst (IsCommand (verb ∷ count ∷ prefix ∷ files)) parts.1 (record {
+      count = length-map files split_at_equals;
+      codes = codes_of files all.1;
+      names = tt;
+      files = λ k d less. tt;
+      bounded = (grind (arith, nat_tests, two), number_within most_parts count first.0 first.1, number.0, number.1);
+    })
+
 alone_is : (verb : List ℕ) (words : List (List ℕ)) (one : Command) (c : Command) → IsCommand (verb ∷ words) one → alone one words ≡ Some c
     → IsCommand (verb ∷ words) c
 alone_is verb [] one c good is = let same : one ≡ c = cc in subst (IsCommand (verb ∷ [])) same good
@@ -474,6 +515,9 @@ unheld_is verb words (Read wanted journal out) d good is = cc
 unheld_is verb words (ReadHoldings journal out rest code) d good is = cc
 unheld_is verb words (ReadWorklist journal list page code) d good is = cc
 unheld_is verb words (Refused out) d good is = cc
+unheld_is verb words (Totals first reports) d good is = cc
+unheld_is verb words (Join out exports) d good is = cc
+unheld_is verb words (Split count prefix files) d good is = cc
 unheld_is verb words (Help topic) d good is = cc
 unheld_is verb words Version d good is = cc
 
@@ -484,7 +528,7 @@ reading_is verb (word ∷ rest) c is =
     unheld_is verb (word ∷ rest) found.0 c (looking_is word word rest found.0 found.1) found.2
 
 behind_is : (verb : List ℕ) (words : List (List ℕ)) (c : Command) → behind_verb verb words ≡ Some c → IsCommand (verb ∷ words) c
-unfolding behind_verb over_journal over_input only_telling
+unfolding behind_verb over_journal over_input over_parts only_telling
 behind_is verb words c is =
     chosen (bytes_eq verb (codes "pass")) (as_pass words) _ c (pass_is verb words c) (
     chosen (bytes_eq verb (codes "run")) (as_run words) _ c (run_is verb words c) (
@@ -499,17 +543,20 @@ behind_is verb words c is =
     chosen (bytes_eq verb (codes "quick")) (as_quick words) _ c (quick_is verb words c) (
     chosen (bytes_eq verb (codes "reading")) (as_reading words) _ c (reading_is verb words c) (
     chosen (bytes_eq verb (codes "refused")) (as_refused words) _ c (refused_is verb words c) (
+    chosen (bytes_eq verb (codes "split")) (as_split words) _ c (split_is verb words c) (
+    chosen (bytes_eq verb (codes "join")) (as_join words) _ c (join_is verb words c) (
+    chosen (bytes_eq verb (codes "totals")) (as_totals words) _ c (totals_is verb words c) (
     chosen (bytes_eq verb (codes "help")) (as_help words) _ c (help_is verb words c) (
     chosen (is_help_flag verb) (alone (Help topic.All) words) _ c (alone_is verb words (Help topic.All) c (a_help (verb ∷ words) topic.All)) (
     chosen (bytes_eq verb (codes "version")) (alone Version words) _ c (alone_is verb words Version c (a_version (verb ∷ words))) (
-    chosen (is_version_flag verb) (alone Version words) None c (alone_is verb words Version c (a_version (verb ∷ words))) (λ none. cc))))))))))))))))) is
+    chosen (is_version_flag verb) (alone Version words) None c (alone_is verb words Version c (a_version (verb ∷ words))) (λ none. cc)))))))))))))))))))) is
 
 asked_is : (large : Bool) (words : List (List ℕ)) (c : Command) → asked_of large words ≡ Some c → IsCommand words c
 unfolding asked_of
 asked_is large [] c is = cc
 asked_is large (verb ∷ words) c is =
     chosen (asks_how verb words) (option_map Help (topic_of verb)) _ c (mapped_help (verb ∷ words) (topic_of verb) c) (
-    chosen (large && has_no_limits verb) None (behind_verb verb words) c (λ none. cc) (behind_is verb words c)) is
+    chosen (large && takes_no_large verb) None (behind_verb verb words) c (λ none. cc) (behind_is verb words c)) is
 
 command_is : (words : List (List ℕ)) (c : Command) → command_of words ≡ Some c → IsCommand (behind_large words) c
 unfolding command_of

@@ -4,12 +4,17 @@ use Rattle.std.specs.Prelude.{is_some, option_and_then, nat_le, map, IsSomeAnd}
 use Rattle.std.specs.Str.{bytes_eq}
 use Rattle.std.specs.Option.{ok_or}
 use Rattle.command_words.specs.declared.asked.AloneRequest.{AloneRequest}
+use Rattle.command_words.specs.declared.asked.AloneRequest.TheVariants as alone
+use Rattle.command_words.specs.declared.asked.HeldLook.{HeldLook}
+use Rattle.command_words.specs.declared.asked.PartsRequest.TheVariants as parts
+use Rattle.command_words.specs.declared.asked.PointRequest.TheVariants as point
+use Rattle.command_words.specs.declared.asked.UnheldLook.TheVariants as read
 use Rattle.command_words.specs.declared.asked.Unasked.{Unasked}
 use Rattle.command_words.specs.declared.asked.Unasked.TheVariants.{Usage, NoMemory}
 use Rattle.command_words.specs.Look as look
 use Rattle.command_words.specs.Look.{HeadingRange, kind_of, most_headings}
 use Rattle.command_words.specs.Asked.{alone_asked, alone_libraries, IsAloneFor, IsAloneAskedBy, IsUnasked, IsUnheld}
-use Rattle.command_words.specs.Command.{Command, Pass, Run, Load, Browse, Export, Report, Make, Verify, VerifyPoint, VerifyDigest, Matches, Holdings, Headings, Worklist, Migrate, Salvage, Checkpoint, Quick, QuickReport, Read, ReadHoldings, ReadWorklist, Refused, Help, Version, number_upto, split_at_equals, as_export, as_report, as_matches, as_holdings, as_headings, as_worklist, as_reading, command_if, looking, unheld, words_of_files, ReadsFiles}
+use Rattle.command_words.specs.Command.{Command, Pass, Run, Load, Browse, Export, Report, Make, Verify, VerifyPoint, VerifyDigest, Matches, Holdings, Headings, Worklist, Migrate, Salvage, Checkpoint, Quick, QuickReport, Read, ReadHoldings, ReadWorklist, Refused, Totals, Join, Split, Help, Version, number_upto, split_at_equals, as_export, as_report, as_matches, as_holdings, as_headings, as_worklist, as_reading, command_if, looking, unheld, words_of_files, ReadsFiles}
 use Rattle.command_words.proofs.Commands.{and_then_some, chosen, if_some}
 
 -- a command that only looks into a journal has one that doesn't hold it
@@ -99,6 +104,9 @@ files_still (Read wanted journal out) some reads = absurd reads
 files_still (ReadHoldings journal out rest code) some reads = cc
 files_still (ReadWorklist journal list page code) some reads = absurd reads
 files_still (Refused out) some reads = cc
+files_still (Totals first reports) some reads = absurd reads
+files_still (Join out exports) some reads = absurd reads
+files_still (Split count prefix files) some reads = cc
 files_still (Help topic) some reads = absurd reads
 files_still Version some reads = absurd reads
 
@@ -131,6 +139,9 @@ words_still word verb rest (Read wanted journal out) d is = cc
 words_still word verb words (ReadHoldings journal out rest code) d is = cc
 words_still word verb rest (ReadWorklist journal list page code) d is = cc
 words_still word verb rest (Refused out) d is = cc
+words_still word verb rest (Totals first reports) d is = cc
+words_still word verb rest (Join out exports) d is = cc
+words_still word verb rest (Split count prefix files) d is = cc
 words_still word verb rest (Help topic) d is = cc
 words_still word verb rest Version d is = cc
 words_still word verb rest (Export journal out code) d is = let same : Read (look.Export code) journal out ≡ d = cc in ap (λ o. words_of_files (word ∷ verb ∷ rest) (Some o)) same
@@ -139,6 +150,29 @@ words_still word verb rest (Matches journal out) d is = let same : Read look.Mat
 words_still word verb rest (Headings journal range out) d is = let same : Read (look.Headings range) journal out ≡ d = cc in ap (λ o. words_of_files (word ∷ verb ∷ rest) (Some o)) same
 words_still word verb rest (Holdings journal out other code) d is = let same : ReadHoldings journal out other code ≡ d = cc in ap (λ o. words_of_files (word ∷ verb ∷ rest) (Some o)) same
 words_still word verb rest (Worklist journal list page code) d is = let same : ReadWorklist journal list page code ≡ d = cc in ap (λ o. words_of_files (word ∷ verb ∷ rest) (Some o)) same
+
+-- a request that isn't a look into a held journal has none into one that isn't held
+pub never_unheld : (asked : AloneRequest) → ((look : HeldLook) → asked ≡ alone.Held look → ⊥) → unheld (alone_asked asked) ≡ None
+never_unheld (alone.Pass library out) never = refl
+never_unheld (alone.Held look) never = absurd (never look refl)
+never_unheld (alone.Make seed count out) never = refl
+never_unheld (alone.Verify journal) never = refl
+never_unheld (alone.VerifyDigest journal count digest) never = refl
+never_unheld (alone.Migrate old new) never = refl
+never_unheld (alone.Salvage journal new) never = refl
+never_unheld (alone.Point (point.Verify journal log)) never = refl
+never_unheld (alone.Point (point.Checkpoint journal log)) never = refl
+never_unheld (alone.Point (point.Quick journal log out)) never = refl
+never_unheld (alone.Point (point.QuickReport journal log out report)) never = refl
+never_unheld (alone.Unheld (read.Read look journal out)) never = refl
+never_unheld (alone.Unheld (read.Holdings r)) never = refl
+never_unheld (alone.Unheld (read.Worklist journal list page code)) never = refl
+never_unheld (alone.Refused library out) never = refl
+never_unheld (alone.Parts (parts.Totals first reports)) never = refl
+never_unheld (alone.Parts (parts.Join out exports)) never = refl
+never_unheld (alone.Parts (parts.Split count prefix libraries)) never = refl
+never_unheld (alone.Help topic) never = refl
+never_unheld alone.Version never = refl
 
 -- what is asked for of a journal that isn't held
 pub read_so : (verb : List ℕ) (rest : List (List ℕ)) (asked : AloneRequest) (answer : Option AloneRequest) → IsAloneFor rest (looking verb rest) asked → IsUnheld asked answer

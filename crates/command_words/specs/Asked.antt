@@ -8,7 +8,15 @@ use Rattle.command_words.specs.declared.asked.Look.{Look}
 use Rattle.command_words.specs.declared.asked.Look.TheVariants as look
 use Rattle.command_words.specs.declared.library.Library.{Library}
 use Rattle.command_words.specs.declared.asked.AloneRequest.{AloneRequest}
-use Rattle.command_words.specs.declared.asked.AloneRequest.TheVariants.{Pass, Export, Report, Make, Verify, VerifyPoint, VerifyDigest, Migrate, Salvage, Matches, Holdings, Headings, Worklist, Checkpoint, Quick, QuickReport, Read, ReadHoldings, ReadWorklist, Refused, Help, Version}
+use Rattle.command_words.specs.declared.asked.AloneRequest.TheVariants.{Pass, Held, Make, Verify, VerifyDigest, Migrate, Salvage, Point, Unheld, Refused, Parts, Help, Version}
+use Rattle.command_words.specs.declared.asked.HeldLook.{HeldLook}
+use Rattle.command_words.specs.declared.asked.HeldLook.TheVariants.{Export, Report, Matches, Holdings, Headings, Worklist}
+use Rattle.command_words.specs.declared.asked.PointRequest.{PointRequest}
+use Rattle.command_words.specs.declared.asked.PointRequest.TheVariants as point
+use Rattle.command_words.specs.declared.asked.PartsRequest.{PartsRequest}
+use Rattle.command_words.specs.declared.asked.PartsRequest.TheVariants as parts
+use Rattle.command_words.specs.declared.asked.UnheldLook.{UnheldLook}
+use Rattle.command_words.specs.declared.asked.UnheldLook.TheVariants as read
 use Rattle.command_words.specs.declared.asked.HeadingRange.{HeadingRange}
 use Rattle.command_words.specs.declared.asked.HoldingsRequest.{HoldingsRequest}
 use Rattle.command_words.specs.declared.asked.LoadRequest.{LoadRequest}
@@ -30,28 +38,47 @@ look_asked look.Report = wanted.Report
 look_asked look.Matches = wanted.Matches
 look_asked (look.Headings range) = wanted.Headings (range_asked range)
 
+-- the command that a look into a held journal is
+abbrev pub held_asked : HeldLook → Command
+held_asked (Export journal out code) = command.Export journal.now out.now (option_copied code)
+held_asked (Report journal out) = command.Report journal.now out.now
+held_asked (Matches journal out) = command.Matches journal.now out.now
+held_asked (Holdings r) = command.Holdings r.journal.now r.out.now r.rest.now (option_copied r.code)
+held_asked (Headings journal range out) = command.Headings journal.now (range_asked range) out.now
+held_asked (Worklist journal list page code) = command.Worklist journal.now list.now page.now (option_copied code)
+
+-- the command over a log of checkpoints that a request is
+abbrev pub point_asked : PointRequest → Command
+point_asked (point.Verify journal log) = command.VerifyPoint journal.now log.now
+point_asked (point.Checkpoint journal log) = command.Checkpoint journal.now log.now
+point_asked (point.Quick journal log out) = command.Quick journal.now log.now out.now
+point_asked (point.QuickReport journal log out report) = command.QuickReport journal.now log.now out.now report.now
+
+-- the command that a look into a journal is which isn't held
+abbrev pub unheld_asked : UnheldLook → Command
+unheld_asked (read.Read look journal out) = command.Read (look_asked look) journal.now out.now
+unheld_asked (read.Holdings r) = command.ReadHoldings r.journal.now r.out.now r.rest.now (option_copied r.code)
+unheld_asked (read.Worklist journal list page code) = command.ReadWorklist journal.now list.now page.now (option_copied code)
+
+-- the command over the parts of a catalogue that a request is
+abbrev pub parts_asked : PartsRequest → Command
+parts_asked (parts.Totals first reports) = command.Totals first.now reports.now
+parts_asked (parts.Join out exports) = command.Join out.now exports.now
+parts_asked (parts.Split count prefix libraries) = command.Split count prefix.now (length libraries)
+
 -- the command that a request is which starts no threads
 abbrev pub alone_asked : AloneRequest → Command
 alone_asked (Pass library out) = command.Pass out.now
-alone_asked (Export journal out code) = command.Export journal.now out.now (option_copied code)
-alone_asked (Report journal out) = command.Report journal.now out.now
+alone_asked (Held look) = held_asked look
 alone_asked (Make seed count out) = command.Make seed count out.now
 alone_asked (Verify journal) = command.Verify journal.now
-alone_asked (VerifyPoint journal point) = command.VerifyPoint journal.now point.now
 alone_asked (VerifyDigest journal count digest) = command.VerifyDigest journal.now count digest.now
-alone_asked (Matches journal out) = command.Matches journal.now out.now
-alone_asked (Holdings r) = command.Holdings r.journal.now r.out.now r.rest.now (option_copied r.code)
-alone_asked (Headings journal range out) = command.Headings journal.now (range_asked range) out.now
-alone_asked (Worklist journal list page code) = command.Worklist journal.now list.now page.now (option_copied code)
 alone_asked (Migrate old new) = command.Migrate old.now new.now
 alone_asked (Salvage journal new) = command.Salvage journal.now new.now
-alone_asked (Checkpoint journal point) = command.Checkpoint journal.now point.now
-alone_asked (Quick journal point out) = command.Quick journal.now point.now out.now
-alone_asked (QuickReport journal point out report) = command.QuickReport journal.now point.now out.now report.now
-alone_asked (Read look journal out) = command.Read (look_asked look) journal.now out.now
-alone_asked (ReadHoldings r) = command.ReadHoldings r.journal.now r.out.now r.rest.now (option_copied r.code)
-alone_asked (ReadWorklist journal list page code) = command.ReadWorklist journal.now list.now page.now (option_copied code)
+alone_asked (Point request) = point_asked request
+alone_asked (Unheld look) = unheld_asked look
 alone_asked (Refused library out) = command.Refused out.now
+alone_asked (Parts request) = parts_asked request
 alone_asked (Help topic) = command.Help topic
 alone_asked Version = command.Version
 
@@ -74,28 +101,40 @@ command_asked (Alone r) = alone_asked r
 command_asked (Load r) = load_asked r
 command_asked (Browse r) = browse_asked r
 
--- the libraries that a request which starts no threads has of its file
+-- the library that a look into a held journal has of its file
+abbrev pub held_libraries : HeldLook → List Library
+held_libraries (Export journal out code) = []
+held_libraries (Report journal out) = []
+held_libraries (Matches journal out) = []
+held_libraries (Holdings r) = r.library ∷ []
+held_libraries (Headings journal range out) = []
+held_libraries (Worklist journal list page code) = []
+
+-- the library that one into a journal has which isn't held
+abbrev pub unheld_libraries : UnheldLook → List Library
+unheld_libraries (read.Read look journal out) = []
+unheld_libraries (read.Holdings r) = r.library ∷ []
+unheld_libraries (read.Worklist journal list page code) = []
+
+-- the libraries that one over the parts of a catalogue has of its files
+abbrev pub parts_libraries : PartsRequest → List Library
+parts_libraries (parts.Totals first reports) = []
+parts_libraries (parts.Join out exports) = []
+parts_libraries (parts.Split count prefix libraries) = libraries
+
+-- the libraries that a request which starts no threads has of its files
 abbrev pub alone_libraries : AloneRequest → List Library
 alone_libraries (Pass library out) = library ∷ []
-alone_libraries (Export journal out code) = []
-alone_libraries (Report journal out) = []
+alone_libraries (Held look) = held_libraries look
 alone_libraries (Make seed count out) = []
 alone_libraries (Verify journal) = []
-alone_libraries (VerifyPoint journal point) = []
 alone_libraries (VerifyDigest journal count digest) = []
-alone_libraries (Matches journal out) = []
-alone_libraries (Holdings r) = r.library ∷ []
-alone_libraries (Headings journal range out) = []
-alone_libraries (Worklist journal list page code) = []
 alone_libraries (Migrate old new) = []
 alone_libraries (Salvage journal new) = []
-alone_libraries (Checkpoint journal point) = []
-alone_libraries (Quick journal point out) = []
-alone_libraries (QuickReport journal point out report) = []
-alone_libraries (Read look journal out) = []
-alone_libraries (ReadHoldings r) = r.library ∷ []
-alone_libraries (ReadWorklist journal list page code) = []
+alone_libraries (Point request) = []
+alone_libraries (Unheld look) = unheld_libraries look
 alone_libraries (Refused library out) = library ∷ []
+alone_libraries (Parts request) = parts_libraries request
 alone_libraries (Help topic) = []
 alone_libraries Version = []
 
@@ -110,7 +149,7 @@ pub record AsksFor (words : List (List ℕ)) (request : Request) : Type 0 where
   pub command : command_of words ≡ Some (command_asked request)
   pub libraries : libraries_asked request ≡ libraries_of words
 
--- why nothing is asked for: there is no command, or it reads files
+-- why nothing is asked for: there is no command, or it reads files of libraries
 abbrev pub IsUnasked : Unasked → Option Command → Type 0
 IsUnasked Usage asked = asked ≡ None
 IsUnasked NoMemory asked = IsSomeAnd asked ReadsFiles
@@ -140,28 +179,40 @@ abbrev pub IsUnheld : AloneRequest → Option AloneRequest → Type 0
 IsUnheld asked answer = MatchOption answer (unheld (alone_asked asked) ≡ None)
     (λ request. (unheld (alone_asked asked) ≡ Some (alone_asked request)) × (alone_libraries request ≡ alone_libraries asked))
 
--- the request is of a command that reads no file but a journal
+-- the look into a held journal reads no file of a library
+abbrev pub IsFilelessLook : HeldLook → Type 0
+IsFilelessLook (Export journal out code) = Unit {0}
+IsFilelessLook (Report journal out) = Unit {0}
+IsFilelessLook (Matches journal out) = Unit {0}
+IsFilelessLook (Holdings r) = ⊥
+IsFilelessLook (Headings journal range out) = Unit {0}
+IsFilelessLook (Worklist journal list page code) = Unit {0}
+
+-- nor does one into a journal that isn't held
+abbrev pub IsFilelessUnheld : UnheldLook → Type 0
+IsFilelessUnheld (read.Read look journal out) = Unit {0}
+IsFilelessUnheld (read.Holdings r) = ⊥
+IsFilelessUnheld (read.Worklist journal list page code) = Unit {0}
+
+-- nor does the command over the parts of a catalogue
+abbrev pub IsFilelessParts : PartsRequest → Type 0
+IsFilelessParts (parts.Totals first reports) = Unit {0}
+IsFilelessParts (parts.Join out exports) = Unit {0}
+IsFilelessParts (parts.Split count prefix libraries) = ⊥
+
+-- the request is of a command that reads no file of a library
 abbrev pub IsFileless : AloneRequest → Type 0
 IsFileless (Pass library out) = ⊥
-IsFileless (Export journal out code) = Unit {0}
-IsFileless (Report journal out) = Unit {0}
+IsFileless (Held look) = IsFilelessLook look
 IsFileless (Make seed count out) = Unit {0}
 IsFileless (Verify journal) = Unit {0}
-IsFileless (VerifyPoint journal point) = Unit {0}
 IsFileless (VerifyDigest journal count digest) = Unit {0}
-IsFileless (Matches journal out) = Unit {0}
-IsFileless (Holdings r) = ⊥
-IsFileless (Headings journal range out) = Unit {0}
-IsFileless (Worklist journal list page code) = Unit {0}
 IsFileless (Migrate old new) = Unit {0}
 IsFileless (Salvage journal new) = Unit {0}
-IsFileless (Checkpoint journal point) = Unit {0}
-IsFileless (Quick journal point out) = Unit {0}
-IsFileless (QuickReport journal point out report) = Unit {0}
-IsFileless (Read look journal out) = Unit {0}
-IsFileless (ReadHoldings r) = ⊥
-IsFileless (ReadWorklist journal list page code) = Unit {0}
+IsFileless (Point request) = Unit {0}
+IsFileless (Unheld look) = IsFilelessUnheld look
 IsFileless (Refused library out) = ⊥
+IsFileless (Parts request) = IsFilelessParts request
 IsFileless (Help topic) = Unit {0}
 IsFileless Version = Unit {0}
 

@@ -1,5 +1,5 @@
 -- The words of the command line, without the program's name, and what they ask for. The rules are this project's own.
-use Rattle.std.specs.Prelude.{◌≢◌, ◌≤◌, ℕ, ◌^◌, ◌-◌, Bool, false, ◌&&◌, ◌||◌, ◌==◌, not, nat_le, nat_lt, List, [], ◌∷◌, length, Option, Some, None, is_some, codes, drop, take, map, if◌then◌else◌, option_and_then, option_map}
+use Rattle.std.specs.Prelude.{◌≢◌, ◌≤◌, ℕ, ◌^◌, ◌-◌, All, Bool, false, ◌&&◌, ◌||◌, ◌==◌, not, nat_le, nat_lt, List, [], ◌∷◌, length, Option, Some, None, is_some, codes, drop, take, map, if◌then◌else◌, option_and_then, option_map}
 use Rattle.std.specs.List.{before_first, after_first, position_or_len, list_all}
 use Rattle.std.specs.Str.{bytes_eq}
 use Rattle.std.specs.Str.Parse.{digits_value}
@@ -8,7 +8,7 @@ use Rattle.marc_types.specs.Valid.{is_code, is_digit}
 use Rattle.outside.specs.Room.{IsNoneOf}
 use Rattle.command_words.specs.declared.library.Library.{Library}
 use Rattle.command_words.specs.declared.topic.Topic.{Topic}
-use Rattle.command_words.specs.declared.topic.Topic.TheVariants.{All}
+use Rattle.command_words.specs.declared.topic.Topic.TheVariants as topics
 use Rattle.command_words.specs.Topics.{topic_of}
 use Rattle.command_words.specs.Look.{Look, HeadingRange, most_headings, kind_of}
 use Rattle.command_words.specs.Look as look
@@ -63,6 +63,12 @@ pub data Command : Type 0 where
   ReadWorklist : List ℕ → List ℕ → List ℕ → Option (List ℕ) → Command
   -- `refused OUT CODE=FILE`: the pieces of one file that a pass refuses, as they stand, into the file OUT
   Refused : List ℕ → Command
+  -- `totals REPORT0 REPORT ..`: the last line of the whole's report, of that of its authorities alone and those of its parts
+  Totals : List ℕ → List (List ℕ) → Command
+  -- `join OUT EXPORT ..`: the exports of the parts of a catalogue, in their order, into the file OUT
+  Join : List ℕ → List (List ℕ) → Command
+  -- `split N PREFIX CODE=FILE ..`: the pieces of so many files into the files of N parts, whose names begin with PREFIX
+  Split : ℕ → List ℕ → ℕ → Command
   -- `help`, or `help COMMAND`: how the commands are used, or that one
   Help : Topic → Command
   -- `version`: which version of the program this is
@@ -291,6 +297,31 @@ as_refused (out ∷ file ∷ []) =
     command_if (are_libraries (file ∷ []) && is_free (file ∷ []) out) (Refused out)
 as_refused words = None
 
+-- `REPORT0 REPORT ..`: at least one REPORT
+abbrev pub as_totals : List (List ℕ) → Option Command
+as_totals (first ∷ reports) = command_if (is_name first && nat_le 1 (length reports) && list_all is_name reports) (Totals first reports)
+as_totals words = None
+
+-- the name of an export isn't empty, and isn't OUT
+abbrev pub is_export : List ℕ → List ℕ → Bool
+is_export out export = is_name export && differ export out
+
+-- `OUT EXPORT ..`: at least one EXPORT
+abbrev pub as_join : List (List ℕ) → Option Command
+as_join (out ∷ exports) = command_if (is_name out && nat_le 1 (length exports) && list_all (is_export out) exports) (Join out exports)
+as_join words = None
+
+-- the most parts of a catalogue
+abbrev pub most_parts : ℕ
+most_parts = 1024
+
+-- `N PREFIX CODE=FILE ..`: at least two parts
+abbrev pub as_split : List (List ℕ) → Option Command
+as_split (count ∷ prefix ∷ files) = do
+  n ← number_upto most_parts count
+  command_if (nat_le 2 n && is_name prefix && are_libraries files) (Split n prefix (length files))
+as_split words = None
+
 -- a word that asks for the version, as it does in other programs
 abbrev pub is_version_flag : List ℕ → Bool
 is_version_flag word = bytes_eq word (codes "--version") || bytes_eq word (codes "-V")
@@ -301,7 +332,7 @@ is_help_flag word = bytes_eq word (codes "--help") || bytes_eq word (codes "-h")
 
 -- nothing, a topic, or a word that asks for the version
 abbrev pub as_help : List (List ℕ) → Option Command
-as_help [] = Some (Help All)
+as_help [] = Some (Help topics.All)
 as_help (word ∷ []) = if is_version_flag word then Some Version else option_map Help (topic_of word)
 as_help words = None
 
@@ -314,17 +345,25 @@ alone command words = None
 unfoldable pub only_telling : List ℕ → List (List ℕ) → Option Command
 only_telling verb words =
     if bytes_eq verb (codes "help") then as_help words
-    else if is_help_flag verb then alone (Help All) words
+    else if is_help_flag verb then alone (Help topics.All) words
     else if bytes_eq verb (codes "version") then alone Version words
     else if is_version_flag verb then alone Version words
     else None
 
--- the commands over a file that hold no journal
+-- the commands over the parts of a catalogue
+unfoldable pub over_parts : List ℕ → List (List ℕ) → Option Command
+over_parts verb words =
+    if bytes_eq verb (codes "split") then as_split words
+    else if bytes_eq verb (codes "join") then as_join words
+    else if bytes_eq verb (codes "totals") then as_totals words
+    else only_telling verb words
+
+-- the commands over files that hold no journal
 unfoldable pub over_input : List ℕ → List (List ℕ) → Option Command
 over_input verb words =
     if bytes_eq verb (codes "reading") then as_reading words
     else if bytes_eq verb (codes "refused") then as_refused words
-    else only_telling verb words
+    else over_parts verb words
 
 -- the commands over a journal that load nothing
 unfoldable pub over_journal : List ℕ → List (List ℕ) → Option Command
@@ -352,9 +391,9 @@ unfoldable pub asks_how : List ℕ → List (List ℕ) → Bool
 asks_how verb (word ∷ []) = is_help_flag word && not (bytes_eq verb (codes "verify"))
 asks_how verb words = false
 
--- the verbs of commands that no limits of a catalogue concern
-unfoldable pub has_no_limits : List ℕ → Bool
-has_no_limits verb =
+-- the verbs of commands whose limits `large` doesn't change; it doesn't stand before them
+unfoldable pub takes_no_large : List ℕ → Bool
+takes_no_large verb =
     bytes_eq verb (codes "make") || bytes_eq verb (codes "help") || bytes_eq verb (codes "version") || is_help_flag verb || is_version_flag verb
 
 -- the command of a verb and the words behind it, where `large` stands before them, or doesn't
@@ -362,10 +401,10 @@ unfoldable pub asked_of : Bool → List (List ℕ) → Option Command
 asked_of large [] = None
 asked_of large (verb ∷ words) =
     if asks_how verb words then option_map Help (topic_of verb)
-    else if large && has_no_limits verb then None
+    else if large && takes_no_large verb then None
     else behind_verb verb words
 
--- `large` stands before a command, which has the limits of a large catalogue then; `large --help` asks how it is used
+-- the words begin with `large`, and don't ask how it is used, as `large --help` does; a command behind it has the limits of a large catalogue
 unfoldable pub is_large : List (List ℕ) → Bool
 is_large [] = false
 is_large (word ∷ words) = bytes_eq word (codes "large") && not (asks_how word words)
@@ -404,6 +443,9 @@ words_of_files words (Some (Read wanted journal out)) = []
 words_of_files words (Some (ReadHoldings journal out rest code)) = take 1 (drop 5 words)
 words_of_files words (Some (ReadWorklist journal list page code)) = []
 words_of_files words (Some (Refused out)) = drop 2 words
+words_of_files words (Some (Totals first reports)) = []
+words_of_files words (Some (Join out exports)) = []
+words_of_files words (Some (Split count prefix files)) = drop 3 words
 words_of_files words (Some (Help topic)) = []
 words_of_files words (Some Version) = []
 
@@ -411,7 +453,7 @@ words_of_files words (Some Version) = []
 unfoldable pub libraries_of : List (List ℕ) → List Library
 libraries_of words = map split_at_equals (words_of_files (behind_large words) (command_of words))
 
--- how many files a command reads
+-- how many files of libraries a command reads
 abbrev pub file_count : Command → ℕ
 file_count (Pass out) = 1
 file_count (Run journal out report files) = files
@@ -436,10 +478,13 @@ file_count (Read wanted journal out) = 0
 file_count (ReadHoldings journal out rest code) = 1
 file_count (ReadWorklist journal list page code) = 0
 file_count (Refused out) = 1
+file_count (Totals first reports) = 0
+file_count (Join out exports) = 0
+file_count (Split count prefix files) = files
 file_count (Help topic) = 0
 file_count Version = 0
 
--- a command reads other files than a journal
+-- a command reads files of libraries
 abbrev pub ReadsFiles : Command → Type 0
 ReadsFiles (Pass out) = Unit {0}
 ReadsFiles (Run journal out report files) = Unit {0}
@@ -464,10 +509,14 @@ ReadsFiles (Read wanted journal out) = ⊥
 ReadsFiles (ReadHoldings journal out rest code) = Unit {0}
 ReadsFiles (ReadWorklist journal list page code) = ⊥
 ReadsFiles (Refused out) = Unit {0}
+ReadsFiles (Totals first reports) = ⊥
+ReadsFiles (Join out exports) = ⊥
+ReadsFiles (Split count prefix files) = Unit {0}
 ReadsFiles (Help topic) = ⊥
 ReadsFiles Version = ⊥
 
--- the names of a command's logs and outputs, and of a journal that is salvaged; of one that is only looked at none
+-- the names of a command's logs and outputs, and of a journal that is salvaged; of one that is only looked at none, and none of the outputs
+-- of `split`, of whose names the words have the front alone
 abbrev pub names_of : Command → List (List ℕ)
 names_of (Pass out) = out ∷ []
 names_of (Run journal out report files) = journal ∷ out ∷ report ∷ []
@@ -492,6 +541,9 @@ names_of (Read wanted journal out) = out ∷ []
 names_of (ReadHoldings journal out rest code) = out ∷ rest ∷ []
 names_of (ReadWorklist journal list page code) = list ∷ page ∷ []
 names_of (Refused out) = out ∷ []
+names_of (Totals first reports) = []
+names_of (Join out exports) = out ∷ []
+names_of (Split count prefix files) = []
 names_of (Help topic) = []
 names_of Version = []
 
@@ -511,7 +563,12 @@ IsLookBounded look.Report = Unit {0}
 IsLookBounded look.Matches = Unit {0}
 IsLookBounded (look.Headings range) = IsRange range
 
--- the bounds of a command's numbers: 1 to 64 files, at most so many records of a workload, and so many headings
+-- at least one export, and none of them is OUT
+abbrev pub AreExports : List ℕ → List (List ℕ) → Type 0
+AreExports out exports = (1 ≤ length exports) × All (λ export. export ≢ out) exports
+
+-- the bounds of a command's numbers: 1 to 64 files, 2 to 1,024 parts, at least one report or export, at most so many records of a workload,
+-- and so many headings
 abbrev pub IsBounded : Command → Type 0
 IsBounded (Pass out) = Unit {0}
 IsBounded (Run journal out report files) = (1 ≤ files) × (files ≤ 64)
@@ -536,5 +593,8 @@ IsBounded (Read wanted journal out) = IsLookBounded wanted
 IsBounded (ReadHoldings journal out rest code) = Unit {0}
 IsBounded (ReadWorklist journal list page code) = Unit {0}
 IsBounded (Refused out) = Unit {0}
+IsBounded (Totals first reports) = 1 ≤ length reports
+IsBounded (Join out exports) = AreExports out exports
+IsBounded (Split count prefix files) = (2 ≤ count) × (count ≤ most_parts) × (1 ≤ files) × (files ≤ 64)
 IsBounded (Help topic) = Unit {0}
 IsBounded Version = Unit {0}

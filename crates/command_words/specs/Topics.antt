@@ -2,7 +2,7 @@
 use Rattle.std.specs.Prelude.{ℕ, List, Option, Some, None, codes, if◌then◌else◌}
 use Rattle.std.specs.Str.{bytes_eq}
 use Rattle.command_words.specs.declared.topic.Topic.{Topic}
-use Rattle.command_words.specs.declared.topic.Topic.TheVariants.{Pass, Run, Load, Browse, Export, Report, Make, Verify, Migrate, Salvage, Matches, Holdings, Headings, Worklist, Checkpoint, Quick, Reading, Refused, Large, Help, Version, Statuses}
+use Rattle.command_words.specs.declared.topic.Topic.TheVariants.{Pass, Run, Load, Browse, Export, Report, Make, Verify, Migrate, Salvage, Matches, Holdings, Headings, Worklist, Checkpoint, Quick, Reading, Refused, Split, Join, Totals, Large, Help, Version, Statuses}
 
 -- the command that a word names, or another topic
 unfoldable pub topic_of : List ℕ → Option Topic
@@ -25,6 +25,9 @@ topic_of word =
     else if bytes_eq word (codes "quick") then Some Quick
     else if bytes_eq word (codes "reading") then Some Reading
     else if bytes_eq word (codes "refused") then Some Refused
+    else if bytes_eq word (codes "split") then Some Split
+    else if bytes_eq word (codes "join") then Some Join
+    else if bytes_eq word (codes "totals") then Some Totals
     else if bytes_eq word (codes "large") then Some Large
     else if bytes_eq word (codes "help") then Some Help
     else if bytes_eq word (codes "version") then Some Version

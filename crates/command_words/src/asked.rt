@@ -1,6 +1,6 @@
 use crate::library::{Libraries, Library};
 use crate::topic::Topic;
-use marc_types::{Kind, NoMemory};
+use marc_types::{Kind, NoMemory, Text};
 
 /// What the words of a command ask for. Names of files are those of the words.
 #[derive(Drop)]
@@ -21,17 +21,8 @@ pub enum AloneRequest<'a> {
         library: Library,
         out: &'a str,
     },
-    /// Write the journal's records into the file `out`: those under keys with that code, or all.
-    Export {
-        journal: &'a str,
-        out: &'a str,
-        code: Option<&'a str>,
-    },
-    /// Write the report on the journal's records into the file `out`.
-    Report {
-        journal: &'a str,
-        out: &'a str,
-    },
+    /// Look into a journal that is held, and write what is found.
+    Held(HeldLook<'a>),
     /// Write the workload of that seed into the file `out`; it has at most 1,048,576 records.
     Make {
         seed: u64,
@@ -42,16 +33,54 @@ pub enum AloneRequest<'a> {
     Verify {
         journal: &'a str,
     },
-    /// Tell whether the last checkpoint of the log `point` is one of the journal, and write nothing.
-    VerifyPoint {
-        journal: &'a str,
-        point: &'a str,
-    },
     /// Tell whether the bytes of the journal's first entries, so many, have this SHA-256, which is 64 hexadecimal digits, and write nothing.
     VerifyDigest {
         journal: &'a str,
         count: u64,
         digest: &'a str,
+    },
+    /// Bring the history of the journal `old` into the journal `new`.
+    Migrate {
+        old: &'a str,
+        new: &'a str,
+    },
+    /// Bring what is sound of the bytes of the damaged journal `journal` into the journal `new`; `journal` is an input.
+    Salvage {
+        journal: &'a str,
+        new: &'a str,
+    },
+    /// Take a journal and a log of its checkpoints.
+    Point(PointRequest<'a>),
+    /// Look into a journal that is an input, and isn't held, and write what is found.
+    Unheld(UnheldLook<'a>),
+    /// Write the pieces of a library's file that a pass refuses, as they stand, into the file `out`.
+    Refused {
+        library: Library,
+        out: &'a str,
+    },
+    /// Take the parts of a catalogue.
+    Parts(PartsRequest<'a>),
+    /// Tell how the commands are used, or one of them.
+    Help {
+        topic: Topic,
+    },
+    /// Tell which version of the program this is.
+    Version,
+}
+
+/// What is looked for in a journal that is held.
+#[derive(Drop)]
+pub enum HeldLook<'a> {
+    /// Write the journal's records into the file `out`: those under keys with that code, or all.
+    Export {
+        journal: &'a str,
+        out: &'a str,
+        code: Option<&'a str>,
+    },
+    /// Write the report on the journal's records into the file `out`.
+    Report {
+        journal: &'a str,
+        out: &'a str,
     },
     /// Write which of the journal's records share a number into the file `out`.
     Matches {
@@ -74,15 +103,15 @@ pub enum AloneRequest<'a> {
         page: &'a str,
         code: Option<&'a str>,
     },
-    /// Bring the history of the journal `old` into the journal `new`.
-    Migrate {
-        old: &'a str,
-        new: &'a str,
-    },
-    /// Bring what is sound of the bytes of the damaged journal `journal` into the journal `new`; `journal` is an input.
-    Salvage {
+}
+
+/// What is done with a journal and a log of its checkpoints.
+#[derive(Clone, Copy, Debug, PartialEq, Eq)]
+pub enum PointRequest<'a> {
+    /// Tell whether the last checkpoint of the log `point` is one of the journal, and write nothing.
+    Verify {
         journal: &'a str,
-        new: &'a str,
+        point: &'a str,
     },
     /// Put a checkpoint of the journal's catalogue behind the log `point`.
     Checkpoint {
@@ -102,32 +131,47 @@ pub enum AloneRequest<'a> {
         out: &'a str,
         report: &'a str,
     },
-    /// Write what is looked for in a journal into the file `out`; the journal is an input, and isn't held.
+}
+
+/// What is done with the parts of a catalogue.
+#[derive(Drop)]
+pub enum PartsRequest<'a> {
+    /// Tell the last line of the whole's report, from the report `first` of its authorities alone and those of its parts, at least one.
+    Totals {
+        first: &'a str,
+        reports: &'a [Text],
+    },
+    /// Write the exports of the parts of a catalogue, at least one, into the file `out`, the authorities once.
+    Join {
+        out: &'a str,
+        exports: &'a [Text],
+    },
+    /// Write the pieces of the files of 1 to 64 libraries into the files of so many parts, 2 to 1,024, whose names begin with `prefix`.
+    Split {
+        count: u64,
+        prefix: &'a str,
+        libraries: Libraries,
+    },
+}
+
+/// What is looked for in a journal that is an input, and isn't held.
+#[derive(Drop)]
+pub enum UnheldLook<'a> {
+    /// Write what is looked for into the file `out`.
     Read {
         look: Look<'a>,
         journal: &'a str,
         out: &'a str,
     },
-    /// Write the records of a journal that is an input, and isn't held, with the holdings of a file behind them.
-    ReadHoldings(HoldingsRequest<'a>),
-    /// Write the worklist of a journal that is an input, and isn't held.
-    ReadWorklist {
+    /// Write the journal's records with the holdings of a file behind them.
+    Holdings(HoldingsRequest<'a>),
+    /// Write the journal's worklist.
+    Worklist {
         journal: &'a str,
         list: &'a str,
         page: &'a str,
         code: Option<&'a str>,
     },
-    /// Write the pieces of a library's file that a pass refuses, as they stand, into the file `out`.
-    Refused {
-        library: Library,
-        out: &'a str,
-    },
-    /// Tell how the commands are used, or one of them.
-    Help {
-        topic: Topic,
-    },
-    /// Tell which version of the program this is.
-    Version,
 }
 
 /// What is looked for in a journal that isn't held.

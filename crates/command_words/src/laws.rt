@@ -21,7 +21,8 @@ pub fn names_are_apart(words: &Words)
         All (λ library. IsNoneOf library.file (names_of command)) (libraries_of words.now) }
 {}
 
-/// A command that reads files into a journal names 1 to 64, and a workload has at most 1,048,576 records.
+/// A command that reads files into a journal or into parts names 1 to 64, and a workload has at most 1,048,576 records. There are 2 to 1,024
+/// parts, and at least one report or export is named; no export is OUT.
 #[tactic(auto, using(crate::proofs::Commands::is_bounded))]
 pub fn numbers_are_bounded(words: &Words)
     ensures { (command : Command) → command_of words.now ≡ Some command → IsBounded command }

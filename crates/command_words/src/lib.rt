@@ -2,8 +2,8 @@
 #![tactic(auto)]
 
 pub use asked::{
-    AloneRequest, BrowseRequest, HeadingRange, HoldingsRequest, LoadRequest, Look, Outputs,
-    Request, Unasked,
+    AloneRequest, BrowseRequest, HeadingRange, HeldLook, HoldingsRequest, LoadRequest, Look,
+    Outputs, PartsRequest, PointRequest, Request, Unasked, UnheldLook,
 };
 pub use kind::named_kind;
 pub use library::{Libraries, Library};
@@ -17,5 +17,6 @@ mod library;
 mod loading;
 mod looking;
 mod names;
+mod parts;
 mod topic;
 mod words;

@@ -1,9 +1,11 @@
 //! The words of commands that only look into a journal.
-ghost use Rattle.std.specs.Prelude.{◌≡◌, ◌∷◌, ℕ, List, Option};
-ghost use Rattle.command_words.specs.Command.{Command, as_export, as_report, as_matches, as_holdings, as_headings, as_worklist, is_looking, looking, as_reading};
-ghost use Rattle.command_words.specs.Asked.{AsksAlone, IsAloneAskedBy, IsUnheld};
+ghost use Rattle.std.specs.Prelude.{◌≡◌, ◌∷◌, ℕ, List, Option, Some};
+ghost use Rattle.command_words.specs.Command.{Command, as_export, as_report, as_matches, as_holdings, as_headings, as_worklist, is_looking, looking, unheld, as_reading};
+ghost use Rattle.command_words.specs.Asked.{held_asked, held_libraries, unheld_asked, unheld_libraries, AsksAlone, IsAloneAskedBy, IsUnheld};
 
-use crate::asked::{AloneRequest, HeadingRange, HoldingsRequest, Look, Unasked};
+use crate::asked::{
+    AloneRequest, HeadingRange, HeldLook, HoldingsRequest, Look, Unasked, UnheldLook,
+};
 use crate::kind::named_kind;
 use crate::names::{are_three_alone, are_three_names, are_two_names, library_in, number_upto};
 use marc_types::{Text, can_be_code};
@@ -21,7 +23,11 @@ fn export(words: &[Text]) -> Option<AloneRequest<'_>>
         _ => return None,
     };
     let (journal, out) = (journal.as_str(), out.as_str());
-    are_two_names(journal, out).then_some(AloneRequest::Export { journal, out, code })
+    are_two_names(journal, out).then_some(AloneRequest::Held(HeldLook::Export {
+        journal,
+        out,
+        code,
+    }))
 }
 
 fn report(words: &[Text]) -> Option<AloneRequest<'_>>
@@ -29,10 +35,10 @@ fn report(words: &[Text]) -> Option<AloneRequest<'_>>
 {
     match words {
         [journal, out] if are_two_names(journal.as_str(), out.as_str()) => Some(
-            AloneRequest::Report {
+            AloneRequest::Held(HeldLook::Report {
                 journal: journal.as_str(),
                 out: out.as_str(),
-            },
+            }),
         ),
         _ => None,
     }
@@ -43,10 +49,10 @@ fn matches(words: &[Text]) -> Option<AloneRequest<'_>>
 {
     match words {
         [journal, out] if are_two_names(journal.as_str(), out.as_str()) => Some(
-            AloneRequest::Matches {
+            AloneRequest::Held(HeldLook::Matches {
                 journal: journal.as_str(),
                 out: out.as_str(),
-            },
+            }),
         ),
         _ => None,
     }
@@ -68,13 +74,13 @@ fn holdings<'a>(alloc: Global, words: &'a [Text]) -> Result<AloneRequest<'a>, Un
         return Err(Unasked::Usage);
     }
     let library = library_in(alloc, &words[0])?;
-    Ok(AloneRequest::Holdings(HoldingsRequest {
+    Ok(AloneRequest::Held(HeldLook::Holdings(HoldingsRequest {
         journal,
         out,
         rest,
         library,
         code,
-    }))
+    })))
 }
 
 fn headings(words: &[Text]) -> Option<AloneRequest<'_>>
@@ -90,11 +96,11 @@ fn headings(words: &[Text]) -> Option<AloneRequest<'_>>
         return None;
     }
     let from = from.as_str();
-    Some(AloneRequest::Headings {
+    Some(AloneRequest::Held(HeldLook::Headings {
         journal,
         range: HeadingRange { kind, from, most },
         out,
-    })
+    }))
 }
 
 fn worklist(words: &[Text]) -> Option<AloneRequest<'_>>
@@ -108,15 +114,15 @@ fn worklist(words: &[Text]) -> Option<AloneRequest<'_>>
         _ => return None,
     };
     let (journal, list, page) = (journal.as_str(), list.as_str(), page.as_str());
-    are_three_alone(journal, list, page).then_some(AloneRequest::Worklist {
+    are_three_alone(journal, list, page).then_some(AloneRequest::Held(HeldLook::Worklist {
         journal,
         list,
         page,
         code,
-    })
+    }))
 }
 
-/// What is asked for by a request that starts no threads and reads no file but a journal, or by none.
+/// What is asked for by a request that starts no threads and reads no file of a library, or by none.
 fn fileless<'a>(asked: Option<AloneRequest<'a>>) -> Result<AloneRequest<'a>, Unasked>
     ensures { (words : List (List ℕ)) (command : Option Command) → AsksAlone asked.entry command → IsAloneAskedBy result words command }
 {
@@ -156,43 +162,54 @@ pub(crate) fn looking<'a>(
     }
 }
 
-/// The same of a journal that isn't held, where it only looks into one.
-fn unheld<'a>(asked: AloneRequest<'a>) -> Option<AloneRequest<'a>>
-    ensures { IsUnheld asked.entry result }
+/// The same look into a journal that isn't held.
+fn unheld_look<'a>(look: HeldLook<'a>) -> UnheldLook<'a>
+    ensures command { unheld (held_asked look.entry) ≡ Some (unheld_asked result) }
+    ensures libraries { unheld_libraries result ≡ held_libraries look.entry }
 {
-    match asked {
-        AloneRequest::Export { journal, out, code } => {
+    match look {
+        HeldLook::Export { journal, out, code } => {
             let look = Look::Export(code);
-            Some(AloneRequest::Read { look, journal, out })
+            UnheldLook::Read { look, journal, out }
         }
-        AloneRequest::Report { journal, out } => {
+        HeldLook::Report { journal, out } => {
             let look = Look::Report;
-            Some(AloneRequest::Read { look, journal, out })
+            UnheldLook::Read { look, journal, out }
         }
-        AloneRequest::Matches { journal, out } => {
+        HeldLook::Matches { journal, out } => {
             let look = Look::Matches;
-            Some(AloneRequest::Read { look, journal, out })
+            UnheldLook::Read { look, journal, out }
         }
-        AloneRequest::Headings {
+        HeldLook::Headings {
             journal,
             range,
             out,
         } => {
             let look = Look::Headings(range);
-            Some(AloneRequest::Read { look, journal, out })
+            UnheldLook::Read { look, journal, out }
         }
-        AloneRequest::Holdings(asked) => Some(AloneRequest::ReadHoldings(asked)),
-        AloneRequest::Worklist {
+        HeldLook::Holdings(asked) => UnheldLook::Holdings(asked),
+        HeldLook::Worklist {
             journal,
             list,
             page,
             code,
-        } => Some(AloneRequest::ReadWorklist {
+        } => UnheldLook::Worklist {
             journal,
             list,
             page,
             code,
-        }),
+        },
+    }
+}
+
+/// The same of a journal that isn't held, where it only looks into one.
+#[tactic(auto, using(crate::proofs::Readings::never_unheld))]
+fn unheld<'a>(asked: AloneRequest<'a>) -> Option<AloneRequest<'a>>
+    ensures { IsUnheld asked.entry result }
+{
+    match asked {
+        AloneRequest::Held(look) => Some(AloneRequest::Unheld(unheld_look(look))),
         _ => None,
     }
 }

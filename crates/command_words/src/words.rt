@@ -1,14 +1,15 @@
 //! What the words of the command line ask for.
 ghost use Rattle.std.specs.Prelude.{◌≡◌, ◌∷◌, ℕ, List, Option, IfOk, IfErr, option_map, []};
 ghost use Rattle.std.specs.List.{list_all};
-ghost use Rattle.command_words.specs.Command.{Command, as_make, as_verify, is_digest, is_hex_digit, as_migrate, as_salvage, as_checkpoint, as_quick, as_help, alone, only_telling, over_input, over_journal, behind_verb, asks_how, is_help_flag, is_version_flag, has_no_limits, asked_of, is_large, behind_large, command_of, Help};
+ghost use Rattle.command_words.specs.Command.{Command, as_make, as_verify, is_digest, is_hex_digit, as_migrate, as_salvage, as_checkpoint, as_quick, as_help, alone, only_telling, over_parts, over_input, over_journal, behind_verb, asks_how, is_help_flag, is_version_flag, takes_no_large, asked_of, is_large, behind_large, command_of, Help};
 ghost use Rattle.command_words.specs.Topics.{topic_of};
 ghost use Rattle.command_words.specs.Asked.{alone_asked, AsksAlone, AsksFor, IsAloneAskedBy, IsAskedBy, IsFileless, IsUnasked};
 
-use crate::asked::{AloneRequest, Request, Unasked};
+use crate::asked::{AloneRequest, PointRequest, Request, Unasked};
 use crate::loading::{browse, load, pass, refused, run};
 use crate::looking::{is_looking, looking, reading};
 use crate::names::{are_four_alone, are_three_alone, are_two_names, number_upto};
+use crate::parts::{join, split, totals};
 use crate::topic::{Topic, named_topic};
 use marc_types::{Sequence, Text};
 use std::alloc::Global;
@@ -80,10 +81,10 @@ fn verify(words: &[Text]) -> Option<AloneRequest<'_>>
             journal: journal.as_str(),
         }),
         [journal, point] if !journal.as_str().is_empty() && !point.as_str().is_empty() => Some(
-            AloneRequest::VerifyPoint {
+            AloneRequest::Point(PointRequest::Verify {
                 journal: journal.as_str(),
                 point: point.as_str(),
-            },
+            }),
         ),
         [journal, count, digest] => {
             verify_digest(journal.as_str(), count.as_str(), digest.as_str())
@@ -123,10 +124,10 @@ fn checkpoint(words: &[Text]) -> Option<AloneRequest<'_>>
 {
     match words {
         [journal, point] if are_two_names(journal.as_str(), point.as_str()) => {
-            Some(AloneRequest::Checkpoint {
+            Some(AloneRequest::Point(PointRequest::Checkpoint {
                 journal: journal.as_str(),
                 point: point.as_str(),
-            })
+            }))
         }
         _ => None,
     }
@@ -150,11 +151,11 @@ fn quick(words: &[Text]) -> Option<AloneRequest<'_>>
 fn quick_alone<'a>(journal: &'a str, point: &'a str, out: &'a str) -> Option<AloneRequest<'a>>
     ensures { AsksAlone result (as_quick (journal.now ∷ point.now ∷ out.now ∷ [])) }
 {
-    are_three_alone(journal, point, out).then_some(AloneRequest::Quick {
+    are_three_alone(journal, point, out).then_some(AloneRequest::Point(PointRequest::Quick {
         journal,
         point,
         out,
-    })
+    }))
 }
 
 fn quick_report<'a>(
@@ -165,12 +166,14 @@ fn quick_report<'a>(
 ) -> Option<AloneRequest<'a>>
     ensures { AsksAlone result (as_quick (journal.now ∷ point.now ∷ out.now ∷ report.now ∷ [])) }
 {
-    are_four_alone(journal, point, out, report).then_some(AloneRequest::QuickReport {
-        journal,
-        point,
-        out,
-        report,
-    })
+    are_four_alone(journal, point, out, report).then_some(AloneRequest::Point(
+        PointRequest::QuickReport {
+            journal,
+            point,
+            out,
+            report,
+        },
+    ))
 }
 
 /// Whether a word asks for the version, as it does in other programs.
@@ -222,7 +225,7 @@ fn told<'a>(verb: &str, rest: &'a [Text]) -> Option<AloneRequest<'a>>
     }
 }
 
-/// What is asked for by a request that reads no file but a journal, or by none.
+/// What is asked for by a request that reads no file of a library, or by none.
 fn alone<'a>(asked: Option<AloneRequest<'a>>) -> Result<Request<'a>, Unasked>
     ensures { (words : List (List ℕ)) (command : Option Command) → AsksAlone asked.entry command → IsAskedBy result words command }
 {
@@ -232,7 +235,20 @@ fn alone<'a>(asked: Option<AloneRequest<'a>>) -> Result<Request<'a>, Unasked>
     }
 }
 
-/// What the words of a command over a file that holds no journal ask for.
+/// What the words of a command over the parts of a catalogue ask for.
+#[tactic(auto, unfolding(crate::specs::Command::over_parts))]
+fn over_parts<'a>(alloc: Global, verb: &str, rest: &'a [Text]) -> Result<Request<'a>, Unasked>
+    ensures { IsAskedBy result rest.now (over_parts verb.now rest.now) }
+{
+    match verb {
+        "split" => split(alloc, rest),
+        "join" => alone(join(rest)),
+        "totals" => alone(totals(rest)),
+        verb => alone(told(verb, rest)),
+    }
+}
+
+/// What the words of a command over files that hold no journal ask for.
 #[tactic(auto, unfolding(crate::specs::Command::over_input))]
 fn over_input<'a>(alloc: Global, verb: &str, rest: &'a [Text]) -> Result<Request<'a>, Unasked>
     ensures { IsAskedBy result rest.now (over_input verb.now rest.now) }
@@ -240,7 +256,7 @@ fn over_input<'a>(alloc: Global, verb: &str, rest: &'a [Text]) -> Result<Request
     match verb {
         "reading" => Ok(Request::Alone(reading(alloc, rest)?)),
         "refused" => refused(alloc, rest),
-        verb => alone(told(verb, rest)),
+        verb => over_parts(alloc, verb, rest),
     }
 }
 
@@ -297,10 +313,10 @@ fn how(verb: &str) -> Option<AloneRequest<'static>>
     })
 }
 
-/// Whether no limits of a catalogue concern the command of this name.
-#[tactic(auto, unfolding(crate::specs::Command::has_no_limits))]
-fn has_no_limits(verb: &str) -> bool
-    ensures { result ≡ has_no_limits verb.now }
+/// Whether `large` changes no limits of the command of this name, before which it doesn't stand then.
+#[tactic(auto, unfolding(crate::specs::Command::takes_no_large))]
+fn takes_no_large(verb: &str) -> bool
+    ensures { result ≡ takes_no_large verb.now }
 {
     verb == "make"
         || verb == "help"
@@ -322,13 +338,14 @@ fn asked<'a>(
     if asks_how(verb, rest) {
         return alone(how(verb));
     }
-    if large && has_no_limits(verb) {
+    if large && takes_no_large(verb) {
         return Err(Unasked::Usage);
     }
     behind_verb(alloc, verb, rest)
 }
 
-/// Whether `large` stands before a command, so that it has the limits of a large catalogue. `large --help` asks how it is used.
+/// Whether the words begin with `large`, and don't ask how it is used, as `large --help` does. A command behind it has the limits of a large
+/// catalogue.
 #[tactic(auto, unfolding(crate::specs::Command::is_large))]
 pub fn is_large(words: &Words) -> bool
     ensures { result ≡ is_large words.now }

@@ -10,3 +10,4 @@ pub mod Faults
 pub mod Appends
 pub mod Chains
 pub mod Taken
+pub mod Beginnings

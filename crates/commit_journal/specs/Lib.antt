@@ -3,4 +3,5 @@ pub mod Versions
 pub mod Journal
 pub mod Reading
 pub mod Taking
+pub mod Begun
 pub mod Tails

@@ -52,6 +52,12 @@ pub record IsLog (frames : List Frame) (place version : ℕ) (log : List ℕ) : 
   pub says : version_of_header log ≡ version
   pub walked : walk_of log ≡ behind frames (closed_at place)
 
+-- a disk's log is blank, and so of version 2, or has a right header of that version
+pub record HasHeader (version : ℕ) (disk : DiskView) : Type 0 where
+  pub blank : disk.len ≤ BLANK_LENGTH → version ≡ 2
+  pub right : BLANK_LENGTH < disk.len → (log : List ℕ) → disk.content ≡ Some log → header_fault log ≡ None
+  pub says : BLANK_LENGTH < disk.len → (log : List ℕ) → disk.content ≡ Some log → version_of_header log ≡ version
+
 -- a disk's log is blank, or of a right header of that version and leads to a closed gate at that place
 pub record IsReadAt (place version : ℕ) (disk : DiskView) : Type 0 where
   pub blank : disk.len ≤ BLANK_LENGTH → (place ≡ FIRST_GATE) × (version ≡ 2)

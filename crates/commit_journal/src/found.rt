@@ -9,8 +9,9 @@ ghost use Rattle.commit_journal.specs.Reading.{IsReadAt};
 ghost use Rattle.commit_journal.specs.Taking.{IsFoundFrom};
 ghost use Rattle.commit_journal.specs.Versions.{number_of};
 
+use crate::begun::begin_on;
 use crate::format::FRAME_ROOM;
-use crate::frame::{Frame, Frames};
+use crate::frame::Frames;
 use crate::journal::Journal;
 use crate::reading::{LogEnd, take_log, zeros};
 use crate::settling::bring_into_order;
@@ -27,9 +28,9 @@ pub fn find_each<D: Disk, T: FrameTaker>(
     disk: &mut D,
     taker: &mut T,
 ) -> Result<LogEnd, JournalFault>
-    requires none { T.has taker.old [] }
+    requires none { T.has taker.old taker.old [] }
     // The taker has the log's frames.
-    ensures found { IfOk result (λ end. IsFoundFrom (T.has taker.new) end.place (number_of end.version) (D.seen disk.old) (D.seen disk.new)) }
+    ensures found { IfOk result (λ end. IsFoundFrom (T.has taker.old taker.new) end.place (number_of end.version) (D.seen disk.old) (D.seen disk.new)) }
 
     // Whatever it answers, every byte is as it was, and so is each image since a first sync that succeeded.
     ensures unwritten { Unwritten (D.seen disk.old) (D.seen disk.new) }
@@ -37,68 +38,90 @@ pub fn find_each<D: Disk, T: FrameTaker>(
     ensures later { (D.seen disk.old).faults ≤ (D.seen disk.new).faults }
     ensures fault { IfErr result (HasOpenCause (D.seen disk.old) (D.seen disk.new)) }
 {
-    disk.sync()?;
-    let end = take_log(alloc, disk, taker)?;
-    Ok(end)
+    let version = begin_on(disk)?;
+    let place = take_log(alloc, disk, taker)?;
+    Ok(LogEnd { place, version })
 }
 
-/// Takes the room for one frame, and finds the log with its frames.
-fn look<D: Disk>(alloc: Global, disk: &mut D) -> Result<(Vec<u8>, Vec<Frame>, LogEnd), JournalFault>
+/// Takes the room for one frame, and finds the log, whose frames are handed on.
+fn look<D: Disk, T: FrameTaker>(
+    alloc: Global,
+    disk: &mut D,
+    taker: &mut T,
+) -> Result<(Vec<u8>, LogEnd), JournalFault>
+    requires none { T.has taker.old taker.old [] }
     ensures room { IfOk result (λ r. vec_len r.0 ≡ FRAME_ROOM) }
-    ensures found { IfOk result (λ r. IsFound r.1.items r.2.place (number_of r.2.version) (D.seen disk.old) (D.seen disk.new)) }
+    ensures found { IfOk result (λ r. IsFoundFrom (T.has taker.old taker.new) r.1.place (number_of r.1.version) (D.seen disk.old) (D.seen disk.new)) }
     ensures unwritten { Unwritten (D.seen disk.old) (D.seen disk.new) }
     ensures opens { Opens (D.seen disk.old) (D.seen disk.new) }
     ensures later { (D.seen disk.old).faults ≤ (D.seen disk.new).faults }
     ensures fault { IfErr result (HasOpenCause (D.seen disk.old) (D.seen disk.new)) }
 {
     let buffer = zeros(alloc, FRAME_ROOM)?;
-    let mut kept = KeptFrames {
-        items: Vec::new(alloc),
-    };
-    let end = find_each(alloc, disk, &mut kept)?;
-    Ok((buffer, kept.items, end))
+    let end = find_each(alloc, disk, taker)?;
+    Ok((buffer, end))
 }
 
 /// A log that was found on a disk, which was synced and read. Nothing was written to it, so it can be left as it was; once it is settled
 /// it is a journal.
 #[derive(Drop)]
 pub struct FoundLog<D: Disk> {
-    disk: D,
+    pub(crate) disk: D,
     // Room for one frame and the gate behind it.
-    buffer: Vec<u8>,
+    pub(crate) buffer: Vec<u8>,
     // The place of the first closed gate.
-    place: u64,
-    version: Version,
+    pub(crate) place: u64,
+    pub(crate) version: Version,
     ghost room: { vec_len buffer ≡ FRAME_ROOM },
     ghost only: { OnlyContent (D.seen disk) },
     ghost read: { IsReadAt place (number_of version) (D.seen disk) },
 }
 
 impl<D: Disk> FoundLog<D> {
-    /// Finds a log that a crash may have left, and answers its frames up to the first closed gate. It syncs and reads, and writes nothing.
-    /// A fault hands the disk back.
+    /// Finds a log that a crash may have left, and hands its frames on, up to the first closed gate, as they are read. It syncs and reads,
+    /// and writes nothing. A fault hands the disk back; any front of the frames was then handed on.
+    pub fn find_with<T: FrameTaker>(
+        alloc: Global,
+        disk: D,
+        taker: &mut T,
+    ) -> Result<Self, (D, JournalFault)>
+        requires none { T.has taker.old taker.old [] }
+        // The taker has the log's frames.
+        ensures found { IfOk result (λ f. IsFoundFrom (T.has taker.old taker.new) f.place (number_of f.version) (D.seen disk) (D.seen f.disk)) }
+
+        // Whatever it answers, every byte is as it was, and so is each image since a first sync that succeeded.
+        ensures unwritten { MatchResult result (λ f. Unwritten (D.seen disk) (D.seen f.disk)) (λ e. Unwritten (D.seen disk) (D.seen e.0)) }
+        ensures crash { MatchResult result (λ f. Opens (D.seen disk) (D.seen f.disk)) (λ e. Opens (D.seen disk) (D.seen e.0)) }
+        ensures later { MatchResult result (λ f. (D.seen disk).faults ≤ (D.seen f.disk).faults) (λ e. (D.seen disk).faults ≤ (D.seen e.0).faults) }
+        ensures fault { IfErr result (λ e. HasOpenCause (D.seen disk) (D.seen e.0) e.1) }
+    {
+        let mut disk = disk;
+        match look(alloc, &mut disk, taker) {
+            Ok((buffer, end)) => Ok(FoundLog {
+                disk,
+                buffer,
+                place: end.place,
+                version: end.version,
+            }),
+            Err(fault) => Err((disk, fault)),
+        }
+    }
+
+    /// The same, and its frames are kept.
     pub fn find(alloc: Global, disk: D) -> Result<(Self, Frames), (D, JournalFault)>
         // The frames are the log's.
         ensures found { IfOk result (λ r. IsFound r.1 r.0.place (number_of r.0.version) (D.seen disk) (D.seen r.0.disk)) }
-
-        // Whatever it answers, every byte is as it was, and so is each image since a first sync that succeeded.
         ensures unwritten { MatchResult result (λ r. Unwritten (D.seen disk) (D.seen r.0.disk)) (λ e. Unwritten (D.seen disk) (D.seen e.0)) }
         ensures crash { MatchResult result (λ r. Opens (D.seen disk) (D.seen r.0.disk)) (λ e. Opens (D.seen disk) (D.seen e.0)) }
         ensures later { MatchResult result (λ r. (D.seen disk).faults ≤ (D.seen r.0.disk).faults) (λ e. (D.seen disk).faults ≤ (D.seen e.0).faults) }
         ensures fault { IfErr result (λ e. HasOpenCause (D.seen disk) (D.seen e.0) e.1) }
     {
-        let mut disk = disk;
-        match look(alloc, &mut disk) {
-            Ok((buffer, frames, end)) => {
-                let found = FoundLog {
-                    disk,
-                    buffer,
-                    place: end.place,
-                    version: end.version,
-                };
-                Ok((found, Frames::from_vec(frames)))
-            }
-            Err(fault) => Err((disk, fault)),
+        let mut kept = KeptFrames {
+            items: Vec::new(alloc),
+        };
+        match FoundLog::find_with(alloc, disk, &mut kept) {
+            Ok(found) => Ok((found, Frames::from_vec(kept.items))),
+            Err(failed) => Err(failed),
         }
     }
 

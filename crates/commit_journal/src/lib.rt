@@ -6,6 +6,7 @@
 //! own; only once it is synced, its gate is opened in a write of its own.
 #![tactic(auto)]
 
+mod begun;
 mod calls;
 mod fault;
 mod format;
@@ -19,6 +20,7 @@ mod tail;
 mod taker;
 mod version;
 
+pub use begun::BegunLog;
 pub use fault::{DeviceFault, JournalFault};
 pub use format::{
     BLANK_LENGTH, CLOSED_GATE, DIGIT_1, FIRST_GATE, FRAME_ROOM, HEAD_BYTES, HEADER_2, HEADER_BYTES,

@@ -2,7 +2,7 @@ ghost use Rattle.std.specs.Prelude.{◌≡◌, ℕ, ◌+◌, ◌-◌, ◌<◌, �
 ghost use Rattle.outside.specs.Disk.{Unchanged};
 ghost use Rattle.outside.specs.Fault.{HasCause, Rose};
 ghost use Rattle.commit_journal.specs.Log.{header_fault, frames_of, version_of_header, walk, lost_at};
-ghost use Rattle.commit_journal.specs.Reading.{HasRead, HeadSays, IsHead, HeadFits, IsStep, IsWalk};
+ghost use Rattle.commit_journal.specs.Reading.{HasRead, HasHeader, HeadSays, IsHead, HeadFits, IsStep, IsWalk};
 ghost use Rattle.commit_journal.specs.Taking.{AreAllTaken, IsTakenFrom};
 ghost use Rattle.commit_journal.specs.Versions.{number_of};
 
@@ -134,8 +134,8 @@ fn take_frames<D: Disk, T: FrameTaker>(
     taker: &mut T,
 ) -> Result<u64, JournalFault>
     requires long { FIRST_GATE < (D.seen disk.old).len }
-    requires none { T.has taker.old [] }
-    ensures taken { IfOk result (λ place. AreAllTaken (T.has taker.new) place (D.seen disk.old)) }
+    requires none { T.has taker.old taker.old [] }
+    ensures taken { IfOk result (λ place. AreAllTaken (T.has taker.old taker.new) place (D.seen disk.old)) }
     ensures lost { (wrong : ℕ) → IsErrOf result (JournalFault.NotAJournal wrong) → (b : List ℕ) → (D.seen disk.old).content ≡ Some b
         → IsWalk wrong b }
     ensures read { HasRead (D.seen disk.old) (D.seen disk.new) result }
@@ -172,41 +172,34 @@ fn read_header<D: Disk>(disk: &mut D) -> Result<Version, JournalFault>
     }
 }
 
-/// Hands on the frames of a log that isn't blank, and answers where it ends.
-fn take_journal<D: Disk, T: FrameTaker>(
-    alloc: Global,
-    disk: &mut D,
-    taker: &mut T,
-) -> Result<LogEnd, JournalFault>
-    requires long { BLANK_LENGTH < (D.seen disk.old).len }
-    requires none { T.has taker.old [] }
-    ensures taken { IfOk result (λ end. IsTakenFrom (T.has taker.new) end.place (number_of end.version) (D.seen disk.old)) }
-    ensures lost { (wrong : ℕ) → IsErrOf result (JournalFault.NotAJournal wrong) → (b : List ℕ) → (D.seen disk.old).content ≡ Some b
-        → frames_of b ≡ Err wrong }
-    ensures read { HasRead (D.seen disk.old) (D.seen disk.new) result }
-{
-    let version = read_header(disk)?;
-    let place = take_frames(alloc, disk, taker)?;
-    Ok(LogEnd { place, version })
-}
-
-/// Hands on the frames of a log up to its first closed gate, and answers where it ends. A blank one has no frames.
-pub fn take_log<D: Disk, T: FrameTaker>(
-    alloc: Global,
-    disk: &mut D,
-    taker: &mut T,
-) -> Result<LogEnd, JournalFault>
-    requires none { T.has taker.old [] }
-    ensures taken { IfOk result (λ end. IsTakenFrom (T.has taker.new) end.place (number_of end.version) (D.seen disk.old)) }
-    ensures lost { (wrong : ℕ) → IsErrOf result (JournalFault.NotAJournal wrong) → (b : List ℕ) → (D.seen disk.old).content ≡ Some b
+/// The version of a log, the newest where it is blank.
+pub fn read_version<D: Disk>(disk: &mut D) -> Result<Version, JournalFault>
+    ensures header { IfOk result (λ version. HasHeader (number_of version) (D.seen disk.old)) }
+    ensures wrong { (wrong : ℕ) → IsErrOf result (JournalFault.NotAJournal wrong) → (b : List ℕ) → (D.seen disk.old).content ≡ Some b
         → frames_of b ≡ Err wrong }
     ensures read { HasRead (D.seen disk.old) (D.seen disk.new) result }
 {
     if disk.len() <= BLANK_LENGTH {
-        return Ok(LogEnd {
-            place: FIRST_GATE,
-            version: Version::Two,
-        });
+        return Ok(Version::Two);
     }
-    take_journal(alloc, disk, taker)
+    read_header(disk)
+}
+
+/// Hands on the frames of a log of a right header up to its first closed gate, and answers its place. A blank one has no frames.
+pub fn take_log<D: Disk, T: FrameTaker>(
+    alloc: Global,
+    disk: &mut D,
+    taker: &mut T,
+) -> Result<u64, JournalFault>
+    requires none { T.has taker.old taker.old [] }
+    ensures taken { IfOk result (λ place. (version : ℕ) → HasHeader version (D.seen disk.old)
+        → IsTakenFrom (T.has taker.old taker.new) place version (D.seen disk.old)) }
+    ensures lost { (wrong : ℕ) → IsErrOf result (JournalFault.NotAJournal wrong) → (version : ℕ) → HasHeader version (D.seen disk.old)
+        → (b : List ℕ) → (D.seen disk.old).content ≡ Some b → frames_of b ≡ Err wrong }
+    ensures read { HasRead (D.seen disk.old) (D.seen disk.new) result }
+{
+    if disk.len() <= BLANK_LENGTH {
+        return Ok(FIRST_GATE);
+    }
+    take_frames(alloc, disk, taker)
 }

@@ -89,13 +89,6 @@ module _ (class : Class) (number : ℕ) (done seats : List Seat) (s : Seat) wher
           ∙ ap (λ b. ((t.field == 0) && (list_any (is_seat_of t.class t.number) done && not (is_record_of class number t.class t.number))) || b) (seat_parts t (first_seat s))
           ∙ other_goes (t.field == 0) (list_any (is_seat_of t.class t.number) done) (is_seat_of t.class t.number s) (is_record_of class number t.class t.number) (λ on. owns class number t s on ∙ e)
 
-pub no_firsts : (class : Class) (number : ℕ) → AreFirstSeats class number [] []
-no_firsts class number = λ t. none (t.field == 0)
-  where
-    none : (b : Bool) → false ≡ (b && false)
-    none true = refl
-    none false = refl
-
 pub next_first : (class : Class) (number : ℕ) (seats : List Seat) (i : ℕ) (s : Seat) (firsts after : List Seat) → i < length seats → slice_get seats i ≡ Some s
     → AreFirstSeats class number (take i seats) firsts → after ≡ (if is_record_of class number s.class s.number then firsts else with_thing same_seat firsts (first_seat s))
     → AreFirstSeats class number (take (i + 1) seats) after

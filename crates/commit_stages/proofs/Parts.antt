@@ -59,10 +59,6 @@ same_state change s same = λ i. record {
   bibliographic = same_rows (change Bibliographic) (same Bibliographic) s.bibliographic i;
 }
 
--- a change that is the same everywhere makes the same state
-pub alike_state : (f g : Class → KeptField → KeptField) (s : State) → ((class : Class) (h : KeptField) → f class h ≡ g class h) → each_field f s ≡ each_field g s
-alike_state f g s same = ap (λ (change : Class → KeptField → KeptField). each_field change s) (λ i class h. same class h i)
-
 -- ---- the record in its place
 
 placed_row : (a : Arrival) (rows : List Row) → place a rows ≡ with_row (Some a.key) (record_brought a) rows

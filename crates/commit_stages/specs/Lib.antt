@@ -12,4 +12,5 @@ pub mod OwnFields
 pub mod Unlinked
 pub mod Receipts
 pub mod Stages
+pub mod Touched
 pub mod Headings

@@ -61,6 +61,11 @@ is_record_of class number other n = same_class class other && (number == n)
 abbrev pub first_seat : Seat → Seat
 first_seat seat = record { class = seat.class; number = seat.number; field = 0 }
 
+-- the first seat of a seat's record among them, unless it is the record of the class and number
+abbrev pub with_first : Class → ℕ → Seat → List Seat → List Seat
+with_first class number seat firsts =
+    if is_record_of class number seat.class seat.number then firsts else with_thing same_seat firsts (first_seat seat)
+
 -- the first seats of the records that have one of the seats, without the one of the class and number
 abbrev pub AreFirstSeats : Class → ℕ → List Seat → List Seat → Type 0
 AreFirstSeats class number seats firsts =

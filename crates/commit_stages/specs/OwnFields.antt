@@ -7,11 +7,11 @@ use Rattle.marc_types.specs.declared.key.Class.{Class}
 use Rattle.marc_types.specs.declared.key.Key.{Key}
 use Rattle.entry_record.specs.Authority.{Linkable}
 use Rattle.numbering.specs.declared.seat.Seat.{Seat}
-use Rattle.catalogue_rules.specs.State.{KeptRecord, State, fields_of, new_field, rows_of}
+use Rattle.catalogue_rules.specs.State.{KeptRecord, State, fields_of, linkable_authorities, new_field, rows_of}
 use Rattle.linking_laws.specs.Middle.{IsMiddleWith}
 use Rattle.linking_laws.specs.Stages.{settle_own}
 use Rattle.linking_laws.specs.Visits.{own_row_visits}
-use Rattle.linked_store.specs.Linked.{IsAhead, Linked, record_at}
+use Rattle.linked_store.specs.Linked.{IsAhead, Linked, key_of, record_at}
 
 -- the record under the key that has the number has these fields as they came: with no link, and nothing awaited
 abbrev pub HasFieldsAsCame : Class → ℕ → List Field → Linked → Type 0
@@ -43,3 +43,7 @@ pub record IsOwnSettled (all : List Linkable) (class : Class) (key : Key) (old n
 -- the visits that settling these fields takes
 abbrev pub own_visits_of : List Linkable → Class → Key → State → ℕ
 own_visits_of all class key s = sum_by (own_row_visits all class key) (rows_of class s)
+
+-- of the record of the class under the key that has the number
+abbrev pub own_visits_in : Class → ℕ → Linked → ℕ
+own_visits_in class number x = own_visits_of (linkable_authorities x.state) class (key_of class number x.keys) x.state

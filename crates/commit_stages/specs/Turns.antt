@@ -33,6 +33,10 @@ pub record IsCarriedOut (all : List Linkable) (change : Class → KeptField → 
   pub state : new.state ≡ each_field change old.state
   pub middle : IsMiddleWith all new.state
 
+-- the same with the authorities that there were before
+abbrev pub CarriesOut : (Class → KeptField → KeptField) → Linked → Linked → Type 0
+CarriesOut change old new = IsCarriedOut (linkable_authorities old.state) change old new
+
 -- Links to a key, and what waits for it, have been dropped at these seats and nowhere else; a link that isn't dropped yet needn't be
 -- allowed.
 pub record IsDropping (d : Dropping) (key : Key) (successor : Option Key) (done : List Seat) (old now : Linked) : Type 0 where

@@ -1,12 +1,11 @@
 //! The commit of an authority: what is linked to it or waits for it follows.
 ghost use Rattle.std.specs.Prelude.{◌≡◌, ℕ, ◌+◌, ◌≤◌, ◌++◌, [], Option, IfOk, OnOk};
 ghost use Rattle.std.specs.Option.{option_map_or};
-ghost use Rattle.marc_types.specs.declared.form.Form.{Form as AnyForm};
 ghost use Rattle.entry_record.specs.Authority.{Linkable};
-ghost use Rattle.linking_laws.specs.Waiting.{forms_of, is_form_among};
+ghost use Rattle.linking_laws.specs.Waiting.{AreSameForms, forms_of};
 ghost use Rattle.catalogue_tables.specs.Known.{IsKnownAs};
 ghost use Rattle.catalogue_tables.specs.Lent.{shown_forms};
-ghost use Rattle.commit_stages.specs.Stages.{forms_of_brought};
+ghost use Rattle.commit_stages.specs.Stages.{IsKnownIn, forms_of_brought};
 ghost use Rattle.marc_types.specs.Order.{same_key};
 ghost use Rattle.marc_types.specs.declared.key.Class.TheVariants.{Authority as AnAuthority};
 ghost use Rattle.numbering.specs.Numbers.{IsNumberOf};
@@ -28,7 +27,7 @@ use catalogue_tables::KnownAuthority;
 use entry_record::Preparation;
 use linked_store::LinkedStore;
 use marc_types::{Class, Form, NoMemory, Record};
-use numbering::Numbering;
+use numbering::{Numbering, Seat};
 use std::alloc::Global;
 use std::sync::ledger::Ledger;
 
@@ -50,18 +49,42 @@ pub(crate) fn commit_authority<L: Ledger>(
     ensures ahead { IsAhead store.old store.new }
     ensures visits { steps.new ≤ steps.old + touched store.old.state item.now }
 {
-    store.each_record_has_a_number();
     let known = store.known_authority(alloc, number)?;
+    let mut noted = Numbering::new(alloc);
+    commit_known(store, alloc, number, rec, item, &known, &mut noted, steps)
+}
+
+// The same, of an authority that is known so before. What is known and what is noted is lent, so that no stage that fails gives it up.
+fn commit_known<L: Ledger>(
+    store: &mut LinkedStore,
+    alloc: Global,
+    number: u32,
+    rec: Record,
+    item: &Preparation,
+    known: &Option<KnownAuthority>,
+    noted: &mut Numbering<Seat>,
+    steps: &mut Steps<L>,
+) -> Result<CommitCounts, NoMemory>
+    requires own { rec ≡ item.now.rec }
+    requires commit { CanBeCommitted AnAuthority store.old.state item.now }
+    requires number { IsNumberOf same_key (keys_in AnAuthority store.old.keys) item.now.key number }
+    requires known { IsKnownIn number store.old known.now }
+    requires none { noted.old ≡ [] }
+    ensures state { OnOk result (store.new.state ≡ step store.old.state (arrival_of item.now)) }
+    ensures changes { IfOk result (λ changes. (at : ℕ) → AreReceiptCounts (receipt_by at store.old.state item.now) changes) }
+    ensures ahead { IsAhead store.old store.new }
+    ensures visits { steps.new ≤ steps.old + touched store.old.state item.now }
+{
+    store.each_record_has_a_number();
     let ending = links_that_end(known.as_ref(), item);
     let own = store.place(alloc, number, rec, item)?;
-    let mut noted = Numbering::new(alloc);
-    drop_ended(store, alloc, number, item, ending, &mut noted, steps)?;
-    carry_heading(store, alloc, number, own, item, &mut noted, steps)?;
+    drop_ended(store, alloc, number, item, ending, noted, steps)?;
+    carry_heading(store, alloc, number, own, item, noted, steps)?;
     let counts = settle_brought(store, alloc, number, own, item, steps)?;
-    let forms = forms_then_and_now(alloc, known_forms(&known), item)?;
-    settle_touched(store, alloc, number, &forms, &mut noted, steps)?;
+    let forms = forms_then_and_now(alloc, known_forms(known), item)?;
+    settle_touched(store, alloc, number, &forms, noted, steps)?;
     store.each_key_has_one_number();
-    let changed_records = count_records(alloc, &noted, Class::Authority, number)?;
+    let changed_records = count_records(alloc, noted, Class::Authority, number)?;
     Ok(CommitCounts {
         linked: counts.linked,
         ambiguous: counts.ambiguous,
@@ -111,8 +134,7 @@ fn lend<'a>(forms: &mut Vec<&'a Form>, more: &'a [Form]) -> Result<(), NoMemory>
 
 // The forms under which an authority was found.
 fn known_forms(known: &Option<KnownAuthority>) -> &[Form]
-    ensures { (before : Option Linkable) → IsKnownAs before known.now
-        → (form : AnyForm) → is_form_among result.now form ≡ is_form_among (option_map_or forms_of before []) form }
+    ensures { (before : Option Linkable) → IsKnownAs before known.now → AreSameForms result.now (option_map_or forms_of before []) }
 {
     match known {
         Some(known) => &known.forms,

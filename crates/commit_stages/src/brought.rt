@@ -1,13 +1,12 @@
 //! The heading that an authority's entry brings, and which links to its key end with it.
-ghost use Rattle.std.specs.Prelude.{◌≡◌, Option, Some};
+ghost use Rattle.std.specs.Prelude.{◌≡◌, Some};
 ghost use Rattle.std.specs.Option.{option_copied, option_map};
 ghost use Rattle.marc_types.specs.declared.key.Class.TheVariants.{Authority as AnAuthority};
 ghost use Rattle.entry_record.specs.Authority.{Linkable};
 ghost use Rattle.catalogue_rules.specs.Settle.{arrival_of};
 ghost use Rattle.catalogue_tables.specs.Following.{authority_brought};
 ghost use Rattle.linking_laws.specs.Stages.{dropping_by};
-ghost use Rattle.catalogue_tables.specs.Known.{IsKnownAs};
-ghost use Rattle.commit_stages.specs.Stages.{dropping_to};
+ghost use Rattle.commit_stages.specs.Stages.{EndsLinksOf, dropping_to};
 ghost use Rattle.commit_stages.specs.Brought.{brought_as};
 
 use catalogue_tables::KnownAuthority;
@@ -51,8 +50,7 @@ pub(crate) fn brought_heading(item: &Preparation) -> Option<BroughtHeading>
 /// that was known; those by the base where its heading has a subdivision.
 pub(crate) fn links_that_end(known: Option<&KnownAuthority>, item: &Preparation) -> Ending
     requires { item.now.class ≡ AnAuthority }
-    ensures { (before : Option Linkable) → IsKnownAs before (option_copied known.entry)
-        → dropping_to result ≡ dropping_by before (authority_brought (arrival_of item.now)) }
+    ensures { EndsLinksOf (option_copied known.entry) item.now result }
 {
     let Some(heading) = brought_heading(item) else {
         return Ending::All;

@@ -1,19 +1,16 @@
 //! The heading of an authority carried to all fields that are linked to it.
-ghost use Rattle.std.specs.Prelude.{◌≡◌, ◌+◌, ◌≤◌, IfOk, OnOk, find};
+ghost use Rattle.std.specs.Prelude.{◌≡◌, ◌+◌, ◌≤◌, IfOk, OnOk};
 ghost use Rattle.marc_types.specs.declared.key.Class.TheVariants.{Authority as AnAuthority};
-ghost use Rattle.catalogue_rules.specs.Choice.{has_key};
 ghost use Rattle.catalogue_rules.specs.State.{linkable_authorities};
 ghost use Rattle.linking_laws.specs.Middle.{IsMiddle};
-ghost use Rattle.linking_laws.specs.Stages.{carry_by};
 ghost use Rattle.linking_laws.specs.Tables.{holds_at, linked_at};
-ghost use Rattle.linking_laws.specs.Visits.{carry_visits};
 ghost use Rattle.linking_laws.specs.Weights.{sum_fields};
 ghost use Rattle.linked_store.specs.Linked.{IsAhead, IsNumber, ListsSeats, key_of};
 ghost use Rattle.linked_store.specs.Placing.{own_record};
 ghost use Rattle.field_settling.specs.Held.{heading_as};
 ghost use Rattle.commit_stages.specs.Noted.{NotesChanges, noted_with};
-ghost use Rattle.commit_stages.specs.Turns.{IsCarriedOut, IsMadeOf, IsToDo, IsTurned, visits_at};
-ghost use Rattle.commit_stages.specs.Carrying.{CanCarry, IsHeadingOf, carry_heading, linked_visits};
+ghost use Rattle.commit_stages.specs.Turns.{CarriesOut, IsMadeOf, IsToDo, IsTurned, visits_at};
+ghost use Rattle.commit_stages.specs.Carrying.{CanCarry, IsHeadingOf, carry_heading, carry_in, carry_visits_in, linked_visits};
 
 use crate::exchanging::exchange_made;
 use crate::headings::look_at_heading;
@@ -43,13 +40,10 @@ pub fn carry<L: Ledger>(
     requires key { key_of AnAuthority number store.old.keys ≡ key.now }
     requires heading { CanCarry key.now number store.old }
     requires middle { IsMiddle store.old.state }
-    ensures ok { let all = linkable_authorities store.old.state in
-        OnOk result (IsCarriedOut all (carry_by key.now (find (has_key key.now) all)) store.old store.new) }
-    ensures noted { let all = linkable_authorities store.old.state in
-        OnOk result (NotesChanges (carry_by key.now (find (has_key key.now) all)) store.old noted.old noted.new) }
+    ensures ok { OnOk result (CarriesOut (carry_in key.now store.old.state) store.old store.new) }
+    ensures noted { OnOk result (NotesChanges (carry_in key.now store.old.state) store.old noted.old noted.new) }
     ensures ahead { IsAhead store.old store.new }
-    ensures visits { let authority = find (has_key key.now) (linkable_authorities store.old.state) in
-        steps.new ≤ steps.old + sum_fields (carry_visits key.now authority) store.old.state }
+    ensures visits { steps.new ≤ steps.old + sum_fields (carry_visits_in key.now store.old.state) store.old.state }
 {
     let seats = store.linked(alloc, number)?;
     carry_from(store, alloc, number, own, &seats, key, noted, steps)
@@ -71,13 +65,10 @@ fn carry_from<L: Ledger>(
     requires lists { ListsSeats store.old.keys (holds_at (linked_at key.now) store.old.state) seats.now }
     requires heading { CanCarry key.now number store.old }
     requires middle { IsMiddle store.old.state }
-    ensures ok { let all = linkable_authorities store.old.state in
-        OnOk result (IsCarriedOut all (carry_by key.now (find (has_key key.now) all)) store.old store.new) }
-    ensures noted { let all = linkable_authorities store.old.state in
-        OnOk result (NotesChanges (carry_by key.now (find (has_key key.now) all)) store.old noted.old noted.new) }
+    ensures ok { OnOk result (CarriesOut (carry_in key.now store.old.state) store.old store.new) }
+    ensures noted { OnOk result (NotesChanges (carry_in key.now store.old.state) store.old noted.old noted.new) }
     ensures ahead { IsAhead store.old store.new }
-    ensures visits { let authority = find (has_key key.now) (linkable_authorities store.old.state) in
-        steps.new ≤ steps.old + sum_fields (carry_visits key.now authority) store.old.state }
+    ensures visits { steps.new ≤ steps.old + sum_fields (carry_visits_in key.now store.old.state) store.old.state }
 {
     store.each_key_has_one_number();
     if seats.is_empty() {
@@ -105,7 +96,7 @@ fn carry_to<L: Ledger>(
     requires lists { ListsSeats store.old.keys (holds_at (linked_at key.now) store.old.state) seats.now }
     requires heading { IsHeadingOf key.now (heading_as heading) (linkable_authorities store.old.state) }
     requires middle { IsMiddle store.old.state }
-    ensures ok { OnOk result (IsCarriedOut (linkable_authorities store.old.state) (carry_heading key.now (heading_as heading.entry)) store.old store.new) }
+    ensures ok { OnOk result (CarriesOut (carry_heading key.now (heading_as heading.entry)) store.old store.new) }
     ensures noted { OnOk result (NotesChanges (carry_heading key.now (heading_as heading.entry)) store.old noted.old noted.new) }
     ensures ahead { IsAhead store.old store.new }
     ensures visits { steps.new ≤ steps.old + sum_fields (linked_visits key.now) store.old.state }

@@ -1,9 +1,7 @@
 //! How many records have a seat that was noted.
-ghost use Rattle.std.specs.Prelude.{◌≡◌, ◌<◌, length, slice_get, IfOk, OnOk, Some, if◌then◌else◌};
+ghost use Rattle.std.specs.Prelude.{◌≡◌, ◌<◌, length, slice_get, IfOk, OnOk, Some};
 ghost use Rattle.catalogue_rules.specs.Receipt.{same_class};
-ghost use Rattle.numbering.specs.Numbers.{with_thing};
-ghost use Rattle.numbering.specs.Seats.{same_seat};
-ghost use Rattle.commit_stages.specs.Noted.{AreFirstSeats, AreRecordsOf, first_seat, is_record_of};
+ghost use Rattle.commit_stages.specs.Noted.{AreFirstSeats, AreRecordsOf, is_record_of, with_first};
 
 use marc_types::{Class, NoMemory};
 use numbering::{Numbering, Seat};
@@ -60,8 +58,7 @@ fn add_first(
     class: Class,
     number: u32,
 ) -> Result<(), NoMemory>
-    ensures { OnOk result (firsts.new ≡ (if is_record_of class number seat.class seat.number then firsts.old
-        else with_thing same_seat firsts.old (first_seat seat))) }
+    ensures { OnOk result (firsts.new ≡ with_first class number seat firsts.old) }
 {
     if is_record(seat, class, number) {
         return Ok(());

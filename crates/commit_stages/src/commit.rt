@@ -1,12 +1,11 @@
 //! An entry committed: made stage by stage, or taken back.
-ghost use Rattle.std.specs.Prelude.{◌≡◌, ℕ, ◌+◌, ◌≤◌, IfOk, OnOk, OnErr};
+ghost use Rattle.std.specs.Prelude.{◌≡◌, ◌+◌, ◌≤◌, IfOk, OnOk, OnErr};
 ghost use Rattle.entry_record.specs.History.{IsAdmitted};
-ghost use Rattle.catalogue_rules.specs.Receipt.{receipt_of};
 ghost use Rattle.catalogue_rules.specs.Settle.{arrival_of, step};
 ghost use Rattle.catalogue_rules.specs.Valid.{IsValid};
 ghost use Rattle.linking_laws.specs.Visits.{touched};
 ghost use Rattle.linked_store.specs.Linked.{IsAhead};
-ghost use Rattle.commit_stages.specs.Receipts.{AreReceiptCounts};
+ghost use Rattle.commit_stages.specs.Receipts.{AreCountsOfStep};
 
 use crate::authority::commit_authority;
 use crate::bibliographic::commit_bibliographic;
@@ -29,7 +28,7 @@ pub fn commit_entry<L: Ledger>(
 ) -> Result<CommitCounts, NoMemory>
     requires valid { IsValid store.old.state }
     ensures state { OnOk result (store.new.state ≡ step store.old.state (arrival_of item)) }
-    ensures changes { IfOk result (λ changes. (at : ℕ) → AreReceiptCounts (receipt_of at store.old.state (arrival_of item) (step store.old.state (arrival_of item))) changes) }
+    ensures changes { IfOk result (AreCountsOfStep store.old.state (arrival_of item)) }
     ensures err { OnErr result (store.new.state ≡ store.old.state) }
     ensures before { store.new.before ≡ store.old.before }
     ensures visits { steps.new ≤ steps.old + touched store.old.state item }
@@ -57,7 +56,7 @@ fn make<L: Ledger>(
     requires admitted { IsAdmitted item.now }
     requires valid { IsValid store.old.state }
     ensures state { OnOk result (store.new.state ≡ step store.old.state (arrival_of item.now)) }
-    ensures changes { IfOk result (λ changes. (at : ℕ) → AreReceiptCounts (receipt_of at store.old.state (arrival_of item.now) (step store.old.state (arrival_of item.now))) changes) }
+    ensures changes { IfOk result (AreCountsOfStep store.old.state (arrival_of item.now)) }
     ensures ahead { IsAhead store.old store.new }
     ensures visits { steps.new ≤ steps.old + touched store.old.state item.now }
 {

@@ -8,7 +8,7 @@ ghost use Rattle.linking_laws.specs.Tables.{dropped_at, holds_at};
 ghost use Rattle.linking_laws.specs.Weights.{sum_fields};
 ghost use Rattle.linked_store.specs.Linked.{IsAhead, IsNumber, ListsSeats, key_of};
 ghost use Rattle.commit_stages.specs.Noted.{NotesChanges, noted_with};
-ghost use Rattle.commit_stages.specs.Turns.{IsCarriedOut, IsMadeOf, IsToDo, IsTurned, visits_at};
+ghost use Rattle.commit_stages.specs.Turns.{CarriesOut, IsMadeOf, IsToDo, IsTurned, visits_at};
 ghost use Rattle.commit_stages.specs.Dropping.{IsDropTurn, drop_ending, dropping_of, ending_visits, successor_to};
 
 use crate::ending::{EndingLinks, dropped_from};
@@ -38,13 +38,10 @@ pub fn drop_links<L: Ledger>(
     requires key { key_of AnAuthority number store.old.keys ≡ links.key.now }
     requires valid { is_valid_key links.key.now ≡ true }
     requires can { CanDrop (dropping_of links) links.key.now store.old.state }
-    ensures ok { let all = linkable_authorities store.old.state in
-        OnOk result (IsCarriedOut all (drop_ending links.entry all) store.old store.new) }
-    ensures noted { let all = linkable_authorities store.old.state in
-        OnOk result (NotesChanges (drop_ending links.entry all) store.old noted.old noted.new) }
+    ensures ok { OnOk result (CarriesOut (drop_ending links.entry (linkable_authorities store.old.state)) store.old store.new) }
+    ensures noted { OnOk result (NotesChanges (drop_ending links.entry (linkable_authorities store.old.state)) store.old noted.old noted.new) }
     ensures ahead { IsAhead store.old store.new }
-    ensures visits { let all = linkable_authorities store.old.state in
-        steps.new ≤ steps.old + sum_fields (ending_visits links.entry all) store.old.state }
+    ensures visits { steps.new ≤ steps.old + sum_fields (ending_visits links.entry (linkable_authorities store.old.state)) store.old.state }
 {
     let seats = store.dropped(alloc, number, links.successor)?;
     drop_at_seats(store, alloc, &seats, links, noted, steps)
@@ -61,13 +58,10 @@ fn drop_at_seats<L: Ledger>(
 ) -> Result<(), NoMemory>
     requires lists { ListsSeats store.old.keys (holds_at (dropped_at links.key.now (successor_to links)) store.old.state) seats.now }
     requires can { CanDrop (dropping_of links) links.key.now store.old.state }
-    ensures ok { let all = linkable_authorities store.old.state in
-        OnOk result (IsCarriedOut all (drop_ending links.entry all) store.old store.new) }
-    ensures noted { let all = linkable_authorities store.old.state in
-        OnOk result (NotesChanges (drop_ending links.entry all) store.old noted.old noted.new) }
+    ensures ok { OnOk result (CarriesOut (drop_ending links.entry (linkable_authorities store.old.state)) store.old store.new) }
+    ensures noted { OnOk result (NotesChanges (drop_ending links.entry (linkable_authorities store.old.state)) store.old noted.old noted.new) }
     ensures ahead { IsAhead store.old store.new }
-    ensures visits { let all = linkable_authorities store.old.state in
-        steps.new ≤ steps.old + sum_fields (ending_visits links.entry all) store.old.state }
+    ensures visits { steps.new ≤ steps.old + sum_fields (ending_visits links.entry (linkable_authorities store.old.state)) store.old.state }
 {
     store.each_key_has_one_number();
     for seat in seats {

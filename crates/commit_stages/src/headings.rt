@@ -1,16 +1,16 @@
 //! The heading of a kept authority, decoded from its record.
-ghost use Rattle.std.specs.Prelude.{◌≡◌, ◌+◌, Some, true, length, IfOk, IfSome, MatchOption, option_and_then, option_map};
+ghost use Rattle.std.specs.Prelude.{◌≡◌, ◌+◌, Some, true, length, IfOk, IfSome, MatchOption, option_map};
 ghost use Rattle.marc_types.specs.Fields.{tag_of};
 ghost use Rattle.marc_types.specs.Valid.{is_field};
 ghost use Rattle.marc_types.specs.declared.key.Class.TheVariants.{Authority as AnAuthority};
 ghost use Rattle.catalogue_rules.specs.State.{fields_of};
 ghost use Rattle.catalogue_rules.specs.Store.{field_at};
-ghost use Rattle.field_settling.specs.Held.{governing_of, heading_as, with_kind};
+ghost use Rattle.field_settling.specs.Held.{governing_of, heading_as};
 ghost use Rattle.numbered_store.specs.Kept.{kept_record};
 ghost use Rattle.linked_store.specs.Linked.{IsNumber};
 ghost use Rattle.linked_store.specs.Placing.{own_record};
 ghost use Rattle.commit_stages.specs.Choosing.{heading_under};
-ghost use Rattle.commit_stages.specs.Headings.{HasNoHeadingBefore, IsFirstHeading, is_heading_at, own_heading};
+ghost use Rattle.commit_stages.specs.Headings.{HasNoHeadingBefore, IsFirstHeading, heading_at, is_heading_at, own_heading};
 
 use crate::heading::OwnHeading;
 use catalogue_rules::Steps;
@@ -111,7 +111,7 @@ fn heading_at(
     kept: &StoredRecord,
     place: u32,
 ) -> Result<Option<OwnHeading>, NoMemory>
-    ensures { IfOk result (λ heading. option_map own_heading heading ≡ option_and_then with_kind (option_map (λ h. h.field) (field_at place (kept_record kept.now)))) }
+    ensures { IfOk result (λ heading. option_map own_heading heading ≡ heading_at (kept_record kept.now) place) }
 {
     match kept.tag_at(place) {
         Some(tag) => heading_tagged(alloc, kept, place, &tag),
@@ -127,7 +127,7 @@ fn heading_tagged(
     tag: &Tag,
 ) -> Result<Option<OwnHeading>, NoMemory>
     requires { Some tag.now ≡ option_map (λ h. tag_of h.field) (field_at place (kept_record kept.now)) }
-    ensures { IfOk result (λ heading. option_map own_heading heading ≡ option_and_then with_kind (option_map (λ h. h.field) (field_at place (kept_record kept.now)))) }
+    ensures { IfOk result (λ heading. option_map own_heading heading ≡ heading_at (kept_record kept.now) place) }
 {
     let Some(kind) = authority_kind(tag) else {
         return Ok(None);

@@ -1,16 +1,16 @@
 //! The fields of the committed record are settled in turn.
-ghost use Rattle.std.specs.Prelude.{◌≡◌, ◌+◌, ◌≤◌, true, length, Some, IfOk, IfSome, OnOk};
+ghost use Rattle.std.specs.Prelude.{◌≡◌, ◌+◌, ◌≤◌, true, length, IfOk, IfSome, OnOk};
 ghost use Rattle.marc_types.specs.Valid.{is_record};
 ghost use Rattle.catalogue_rules.specs.Settle.{settle_field};
-ghost use Rattle.catalogue_rules.specs.State.{KeptField, fields_of, linkable_authorities};
+ghost use Rattle.catalogue_rules.specs.State.{fields_of, linkable_authorities};
 ghost use Rattle.linking_laws.specs.Middle.{IsMiddle};
 ghost use Rattle.linking_laws.specs.Visits.{own_visits};
-ghost use Rattle.linked_store.specs.Linked.{IsAhead, IsNumber, field_of, key_of, record_at};
+ghost use Rattle.linked_store.specs.Linked.{IsAhead, IsNumber, key_of, record_at};
 ghost use Rattle.linked_store.specs.Placing.{own_record};
 ghost use Rattle.commit_stages.specs.Turns.{IsMadeOf, IsToDo, IsTurned, visits_at};
-ghost use Rattle.commit_stages.specs.Standing.{stands_settled};
+ghost use Rattle.commit_stages.specs.Standing.{StandsSo};
 ghost use Rattle.commit_stages.specs.Counted.{AreCountsOf};
-ghost use Rattle.commit_stages.specs.OwnFields.{AreAsCame, IsOwnSettled, fields_in, own_visits_of};
+ghost use Rattle.commit_stages.specs.OwnFields.{AreAsCame, IsOwnSettled, fields_in, own_visits_in};
 ghost use Rattle.commit_stages.specs.Unlinked.{has_no_link};
 
 use crate::counts::{HeadingCounts, counted};
@@ -42,8 +42,7 @@ pub(crate) fn settle_own<L: Ledger>(
     ensures ok { OnOk result (IsOwnSettled (linkable_authorities store.old.state) class (key_of class number store.old.keys) store.old store.new) }
     ensures counts { IfOk result (AreCountsOf (linkable_authorities store.old.state) class (fields_in class number store.old)) }
     ensures ahead { IsAhead store.old store.new }
-    ensures visits { let all = linkable_authorities store.old.state in
-        steps.new ≤ steps.old + own_visits_of all class (key_of class number store.old.keys) store.old.state }
+    ensures visits { steps.new ≤ steps.old + own_visits_in class number store.old }
 {
     is_proper(store, class, number);
     let places = places_in(store, class, number, own);
@@ -88,8 +87,7 @@ fn settle_own_at<L: Ledger>(
     requires own { own ≡ own_record seat.class seat.number }
     requires middle { IsMiddle store.old.state }
     ensures ok { OnOk result (IsTurned (settle_field (linkable_authorities store.old.state)) seat store.old store.new) }
-    ensures stands { IfOk result (λ stands. (h : KeptField) → field_of seat store.old ≡ Some h
-        → stands ≡ stands_settled (linkable_authorities store.old.state) seat.class h) }
+    ensures stands { IfOk result (StandsSo seat store.old) }
     ensures ahead { IsAhead store.old store.new }
     ensures visits { steps.new ≤ steps.old + visits_at (own_visits (linkable_authorities store.old.state)) store.old seat }
 {
@@ -110,8 +108,7 @@ fn settled_own<L: Ledger>(
     requires own { own ≡ own_record seat.class seat.number }
     requires middle { IsMiddle store.now.state }
     ensures made { IfOk result (λ settled. IsMadeOf (settle_field (linkable_authorities store.now.state)) seat store.now settled.made) }
-    ensures stands { IfOk result (λ settled. (h : KeptField) → field_of seat store.now ≡ Some h
-        → settled.stands ≡ stands_settled (linkable_authorities store.now.state) seat.class h) }
+    ensures stands { IfOk result (λ settled. StandsSo seat store.now settled.stands) }
     ensures visits { steps.new ≤ steps.old + visits_at (own_visits (linkable_authorities store.now.state)) store.now seat }
 {
     is_proper(store, seat.class, seat.number);

@@ -12,7 +12,7 @@ ghost use Rattle.linked_store.specs.Linked.{IsNumber, field_of};
 ghost use Rattle.commit_stages.specs.Choosing.{heading_under, linked_under};
 ghost use Rattle.commit_stages.specs.Fields.{field_as};
 ghost use Rattle.commit_stages.specs.Settled.{IsChoiceSettledTo};
-ghost use Rattle.commit_stages.specs.Standing.{stands_settled};
+ghost use Rattle.commit_stages.specs.Standing.{stands_at};
 
 use crate::headings::visit_heading;
 use crate::settled::{Settled, Stands};
@@ -59,7 +59,7 @@ pub(crate) fn settle_with_standing<L: Ledger>(
     requires stands { field_of seat store.now ≡ Some (field_as at) }
     requires unlinked { (field_as at).tie.key ≡ None }
     ensures settled { IfOk result (λ settled. IsChoiceSettledTo (linkable_authorities store.now.state) seat.class (field_as at.entry) settled.made) }
-    ensures stands { IfOk result (λ settled. settled.stands ≡ stands_settled (linkable_authorities store.now.state) seat.class (field_as at.entry)) }
+    ensures stands { IfOk result (λ settled. settled.stands ≡ stands_at store.now seat.class at.entry) }
     ensures visits { steps.new ≤ steps.old + link_visit (linkable_authorities store.now.state) seat.class (field_as at.entry) }
 {
     let chosen = store.choose_at(alloc, seat, at.field, at.tie)?;
@@ -97,8 +97,7 @@ fn settle_chosen<L: Ledger>(
     requires ordered { AreAuthoritiesInOrder store.now.state }
     requires chosen { chosen ≡ option_map (chosen_for store.now.keys.authorities) (heading_choice (linkable_authorities store.now.state) class (field_as at)) }
     ensures settled { IfOk result (λ settled. IsChoiceSettledTo (linkable_authorities store.now.state) class (field_as at.entry) settled.made) }
-    ensures stands { (field_as at.entry).tie.key ≡ None → IfOk result (λ settled.
-        settled.stands ≡ stands_settled (linkable_authorities store.now.state) class (field_as at.entry)) }
+    ensures stands { (field_as at.entry).tie.key ≡ None → IfOk result (λ settled. settled.stands ≡ stands_at store.now class at.entry) }
     ensures visits { steps.new ≤ steps.old + link_visit (linkable_authorities store.now.state) class (field_as at.entry) }
 {
     store.each_authority_has_a_number();

@@ -9,15 +9,14 @@ ghost use Rattle.catalogue_rules.specs.Settle.{arrival_of};
 ghost use Rattle.catalogue_rules.specs.State.{linkable_authorities};
 ghost use Rattle.catalogue_tables.specs.Following.{authority_brought};
 ghost use Rattle.linking_laws.specs.Middle.{CanDrop, IsMiddle};
-ghost use Rattle.linking_laws.specs.Stages.{carry_by, successor_in};
-ghost use Rattle.linking_laws.specs.Visits.{carry_visits};
+ghost use Rattle.linking_laws.specs.Stages.{successor_in};
 ghost use Rattle.linking_laws.specs.Weights.{sum_fields};
 ghost use Rattle.linked_store.specs.Linked.{IsAhead, IsNumber, key_of};
 ghost use Rattle.linked_store.specs.Placing.{own_record};
-ghost use Rattle.commit_stages.specs.Turns.{IsCarriedOut};
+ghost use Rattle.commit_stages.specs.Turns.{CarriesOut};
 ghost use Rattle.commit_stages.specs.OwnFields.{IsOwnSettled, own_visits_of};
 ghost use Rattle.commit_stages.specs.Noted.{NotesChanges};
-ghost use Rattle.commit_stages.specs.Stages.{AreCountsBrought, IsBrought, drop_of, drop_visits_of, dropping_to};
+ghost use Rattle.commit_stages.specs.Stages.{AreCountsBrought, IsBrought, carry_of, carry_visits_of, drop_of, drop_visits_of, dropping_to};
 
 use crate::brought::{Ending, brought_heading};
 use crate::carrying::carry;
@@ -47,13 +46,10 @@ pub(crate) fn drop_ended<L: Ledger>(
     requires number { IsNumber AnAuthority number store.old.keys }
     requires key { key_of AnAuthority number store.old.keys ≡ item.now.key }
     requires can { CanDrop (dropping_to ending) item.now.key store.old.state }
-    ensures ok { let all = linkable_authorities store.old.state in
-        OnOk result (IsCarriedOut all (drop_of ending item.now all) store.old store.new) }
-    ensures noted { let all = linkable_authorities store.old.state in
-        OnOk result (NotesChanges (drop_of ending item.now all) store.old noted.old noted.new) }
+    ensures ok { OnOk result (CarriesOut (drop_of ending item.now (linkable_authorities store.old.state)) store.old store.new) }
+    ensures noted { OnOk result (NotesChanges (drop_of ending item.now (linkable_authorities store.old.state)) store.old noted.old noted.new) }
     ensures ahead { IsAhead store.old store.new }
-    ensures visits { let all = linkable_authorities store.old.state in
-        steps.new ≤ steps.old + sum_fields (drop_visits_of ending item.now all) store.old.state }
+    ensures visits { steps.new ≤ steps.old + sum_fields (drop_visits_of ending item.now (linkable_authorities store.old.state)) store.old.state }
 {
     match ending {
         Ending::Nothing => Ok(()),
@@ -94,11 +90,10 @@ pub(crate) fn carry_heading<L: Ledger>(
     requires key { key_of AnAuthority number store.old.keys ≡ item.now.key }
     requires own { find (has_key item.now.key) (linkable_authorities store.old.state) ≡ authority_brought (arrival_of item.now) }
     requires middle { IsMiddle store.old.state }
-    ensures ok { let all = linkable_authorities store.old.state in
-        OnOk result (IsCarriedOut all (carry_by item.now.key (authority_brought (arrival_of item.now))) store.old store.new) }
-    ensures noted { OnOk result (NotesChanges (carry_by item.now.key (authority_brought (arrival_of item.now))) store.old noted.old noted.new) }
+    ensures ok { OnOk result (CarriesOut (carry_of item.now) store.old store.new) }
+    ensures noted { OnOk result (NotesChanges (carry_of item.now) store.old noted.old noted.new) }
     ensures ahead { IsAhead store.old store.new }
-    ensures visits { steps.new ≤ steps.old + sum_fields (carry_visits item.now.key (authority_brought (arrival_of item.now))) store.old.state }
+    ensures visits { steps.new ≤ steps.old + sum_fields (carry_visits_of item.now) store.old.state }
 {
     match brought_heading(item) {
         Some(_) => carry(store, alloc, number, own, item.key(), noted, steps),

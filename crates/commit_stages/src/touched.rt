@@ -2,15 +2,12 @@
 ghost use Rattle.std.specs.Prelude.{◌≡◌, ◌+◌, ◌≤◌, true, OnOk};
 ghost use Rattle.marc_types.specs.declared.key.Class.TheVariants.{Authority as AnAuthority};
 ghost use Rattle.entry_record.specs.Authority.{is_valid_key};
-ghost use Rattle.catalogue_rules.specs.State.{linkable_authorities};
-ghost use Rattle.catalogue_tables.specs.Lent.{shown_forms};
 ghost use Rattle.linking_laws.specs.Middle.{IsMiddle};
-ghost use Rattle.linking_laws.specs.Stages.{choose_field};
-ghost use Rattle.linking_laws.specs.Visits.{choose_visits};
 ghost use Rattle.linking_laws.specs.Weights.{sum_fields};
 ghost use Rattle.linked_store.specs.Linked.{IsAhead, IsNumber, key_of};
 ghost use Rattle.commit_stages.specs.Noted.{NotesChanges};
-ghost use Rattle.commit_stages.specs.Turns.{IsCarriedOut};
+ghost use Rattle.commit_stages.specs.Touched.{choose_for, choose_visits_for};
+ghost use Rattle.commit_stages.specs.Turns.{CarriesOut};
 
 use crate::waiting::settle_at;
 use catalogue_rules::Steps;
@@ -32,13 +29,10 @@ pub fn settle_touched<L: Ledger>(
     requires number { IsNumber AnAuthority number store.old.keys }
     requires valid { is_valid_key (key_of AnAuthority number store.old.keys) ≡ true }
     requires middle { IsMiddle store.old.state }
-    ensures ok { let all = linkable_authorities store.old.state in let key = key_of AnAuthority number store.old.keys in
-        OnOk result (IsCarriedOut all (choose_field all (shown_forms forms.now) key) store.old store.new) }
-    ensures noted { let all = linkable_authorities store.old.state in let key = key_of AnAuthority number store.old.keys in
-        OnOk result (NotesChanges (choose_field all (shown_forms forms.now) key) store.old noted.old noted.new) }
+    ensures ok { OnOk result (CarriesOut (choose_for forms.now number store.old) store.old store.new) }
+    ensures noted { OnOk result (NotesChanges (choose_for forms.now number store.old) store.old noted.old noted.new) }
     ensures ahead { IsAhead store.old store.new }
-    ensures visits { let all = linkable_authorities store.old.state in let key = key_of AnAuthority number store.old.keys in
-        steps.new ≤ steps.old + sum_fields (choose_visits all (shown_forms forms.now) key) store.old.state }
+    ensures visits { steps.new ≤ steps.old + sum_fields (choose_visits_for forms.now number store.old) store.old.state }
 {
     store.each_key_has_one_number();
     let seats = store.waiting(alloc, forms, number)?;

@@ -4,10 +4,10 @@ use Rattle.std.specs.Io.KnownBytes.{Appends}
 use Rattle.outside.specs.Fault.{Rose}
 use Rattle.outside.specs.Sink.{WritesFront}
 use Rattle.outside.proofs.Fronts.{front_all}
-use Rattle.console_lines.specs.Ends.{end_of, IsAllDone, TellsNoFault, IsResultTold, ResultTold, ResultUntold, out_unwritten, side_unwritten, pages_unwritten, console_unwritten}
+use Rattle.console_lines.specs.Ends.{end_of, IsAllDone, TellsNoFault, IsCommon, IsResultTold, ResultTold, ResultUntold, out_unwritten, side_unwritten, pages_unwritten, console_unwritten}
 use Rattle.console_lines.specs.declared.fault.Fault.{Fault}
 use Rattle.console_lines.specs.declared.end.End.{End}
-use Rattle.console_lines.specs.declared.end.End.TheVariants.{Done, Unwritten, Told}
+use Rattle.console_lines.specs.declared.end.End.TheVariants.{Done, Unwritten, Told, BroughtInPart, Differ}
 use Rattle.console_lines.specs.declared.end.Unwritten.{Unwritten as Which}
 use Rattle.console_lines.specs.declared.end.Unwritten.TheVariants.{Out, Side, Pages, Console}
 
@@ -49,6 +49,14 @@ never_told end why untold is = subst TellsNoFault is untold
 pub told_not_all : (end : End) (why : Fault) → end ≡ Told why → IsAllDone end → ⊥
 told_not_all end why is all = subst IsAllDone is all
 
+-- a fault that is told, and all done, are ends that any command may have
+pub told_common : (end : End) (why : Fault) → end ≡ Told why → IsCommon end
+told_common end why is =
+    ((λ also. let both : Told why ≡ BroughtInPart = sym is ∙ also in cc), (λ also. let both : Told why ≡ Differ = sym is ∙ also in cc))
+
+pub all_common : (end : End) → IsAllDone end → IsCommon end
+all_common end all = ((λ also. subst IsAllDone also all), (λ also. subst IsAllDone also all))
+
 pub all_of : (refused : Bool) → IsAllDone (end_of refused)
 all_of true = tt
 all_of false = tt
@@ -86,6 +94,11 @@ module _ {old new : Option (List ℕ)} {before now : ℕ} {text : List ℕ} {ref
 
   pub result_no_pages : IsResultTold old new before now text refused end → end ≢ pages_unwritten
   result_no_pages told = λ also. let no : Pages ≡ Console = result_console Pages told also in cc
+
+  pub result_common : IsResultTold old new before now text refused end → IsCommon end
+  result_common (ResultTold is line) = subst IsCommon (sym is) (all_common (end_of refused) (all_of refused))
+  result_common (ResultUntold is rose front) =
+      ((λ also. let both : Unwritten Console ≡ BroughtInPart = sym is ∙ also in cc), (λ also. let both : Unwritten Console ≡ Differ = sym is ∙ also in cc))
 
   pub result_cause : IsResultTold old new before now text refused end → end ≡ console_unwritten → Rose before now
   result_cause (ResultTold is line) also = absurd (all_not_unwritten (end_of refused) Console (all_of refused) (sym is ∙ also))

@@ -1,13 +1,14 @@
 -- How a command ends, and what it did. The statuses are this project's own.
-use Rattle.std.specs.Prelude.{◌≡◌, ℕ, Bool, List, Option, if◌then◌else◌}
+use Rattle.std.specs.Prelude.{◌≡◌, ◌≢◌, ℕ, Bool, List, Option, if◌then◌else◌}
 use Rattle.std.specs.Io.KnownBytes.{Appends}
 use Rattle.outside.specs.Fault.{Rose}
 use Rattle.outside.specs.Room.{RoomView}
 use Rattle.outside.specs.Sink.{WritesFront}
 use Rattle.console_lines.specs.Faults.{fault_status, fault_line, IsFaultTold}
+use Rattle.console_lines.specs.Lines.{part_line, differ_line}
 use Rattle.console_lines.specs.declared.fault.Fault.{Fault}
 use Rattle.console_lines.specs.declared.end.End.{End}
-use Rattle.console_lines.specs.declared.end.End.TheVariants.{Done, Refused, Unwritten, Told}
+use Rattle.console_lines.specs.declared.end.End.TheVariants.{Done, Refused, Unwritten, Told, BroughtInPart, Differ}
 use Rattle.console_lines.specs.declared.end.Unwritten.TheVariants.{Out, Side, Pages, Console}
 
 -- the exit status of an end
@@ -16,6 +17,8 @@ end_status Done = 0
 end_status Refused = 1
 end_status (Unwritten which) = 4
 end_status (Told fault) = fault_status fault
+end_status BroughtInPart = 5
+end_status Differ = 11
 
 -- the file OUT could not be written
 abbrev pub out_unwritten : End
@@ -43,13 +46,21 @@ IsAllDone Done = Unit {0}
 IsAllDone Refused = Unit {0}
 IsAllDone (Unwritten which) = ⊥
 IsAllDone (Told fault) = ⊥
+IsAllDone BroughtInPart = ⊥
+IsAllDone Differ = ⊥
 
--- no fault was told
+-- no fault was told, and neither that a journal was brought in part nor that parts differ
 abbrev pub TellsNoFault : End → Type 0
 TellsNoFault Done = Unit {0}
 TellsNoFault Refused = Unit {0}
 TellsNoFault (Unwritten which) = Unit {0}
 TellsNoFault (Told fault) = ⊥
+TellsNoFault BroughtInPart = ⊥
+TellsNoFault Differ = ⊥
+
+-- it is no end that some commands alone have
+abbrev pub IsCommon : End → Type 0
+IsCommon end = (end ≢ BroughtInPart) × (end ≢ Differ)
 
 -- the console got the text, and the end is by whether something was refused; or it could not be written, and got a front of the text
 pub data IsResultTold (old new : Option (List ℕ)) (before now : ℕ) (text : List ℕ) (refused : Bool) (end : End) : Type 0 where
@@ -93,3 +104,11 @@ IsSilent o = (o.now ≡ o.told) × (o.faults_now ≡ o.faults)
 -- the console was told that fault, as far as it could be written
 abbrev pub IsTold : Fault → Outcome → Type 0
 IsTold fault o = IsFaultTold o.told o.now o.faults o.faults_now (fault_line fault)
+
+-- the console was told that the new journal got a part of what was to be brought, as far as it could be written
+abbrev pub IsPartTold : Outcome → Type 0
+IsPartTold o = IsFaultTold o.told o.now o.faults o.faults_now part_line
+
+-- the console was told that parts differ, at that byte of the file of that name, as far as it could be written
+abbrev pub IsDifferenceTold : ℕ → List ℕ → Outcome → Type 0
+IsDifferenceTold place name o = IsFaultTold o.told o.now o.faults o.faults_now (differ_line place name)

@@ -84,3 +84,15 @@ checkpoint_line count = codes "checkpoint " ++ decimal count ++ line_end
 -- the line of an export that a checkpoint spared so many entries, of how many
 abbrev pub resumed_line : ℕ → ℕ → List ℕ
 resumed_line taken count = codes "resumed " ++ decimal taken ++ (codes " of " ++ decimal count ++ line_end)
+
+-- the line of a new journal that got a part of what was to be brought
+abbrev pub part_line : List ℕ
+part_line = codes "union_cat: brought in part\n"
+
+-- the line of parts of a catalogue that differ, up to the name of the file
+abbrev pub differ_front : ℕ → List ℕ
+differ_front place = codes "union_cat: parts differ at " ++ decimal place ++ codes " of "
+
+-- the line of parts of a catalogue that differ, at that byte of the file of that name
+abbrev pub differ_line : ℕ → List ℕ → List ℕ
+differ_line place name = differ_front place ++ name ++ line_end

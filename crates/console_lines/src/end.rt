@@ -36,6 +36,10 @@ pub enum End {
     Unwritten(Unwritten),
     /// A fault, which the console was told.
     Told(Fault),
+    /// The new journal got a part of what was to be brought, which the console was told.
+    BroughtInPart,
+    /// Parts of a catalogue differ, which the console was told.
+    Differ,
 }
 
 impl End {
@@ -55,6 +59,8 @@ impl End {
             End::Refused => 1,
             End::Unwritten(_) => 4,
             End::Told(fault) => fault.status(),
+            End::BroughtInPart => 5,
+            End::Differ => 11,
         }
     }
 }

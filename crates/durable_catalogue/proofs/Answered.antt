@@ -7,8 +7,7 @@ use Rattle.outside.specs.Fault.{Rose}
 use Rattle.outside.proofs.Counts.{rose_since}
 use Rattle.commit_journal.specs.declared.frame.Frame.{Frame}
 use Rattle.commit_journal.specs.declared.fault.JournalFault.{JournalFault}
-use Rattle.commit_journal.specs.declared.version.Version.{Version}
-use Rattle.commit_journal.specs.Versions.{number_of}
+use Rattle.commit_journal.specs.Begun.{IsUnfound}
 use Rattle.commit_journal.specs.Journal.{IsFound, IsRecovered, IsSettling, Opens, HasOpenCause, LeavesContent}
 use Rattle.durable_catalogue.specs.declared.fault.OpenFault.{OpenFault}
 use Rattle.durable_catalogue.specs.declared.fault.OpenFault.TheVariants.{DeviceFault}
@@ -43,11 +42,9 @@ module _ (old new : DiskView) (opens : Opens old new) (leaves : LeavesContent ol
     failed = device_fault old new fault cause;
   })
 
--- frames that were handed on with their version
-pub unloads_of : (named version : Version) (handed frames : List Frame) (limits : Limits) (why : OpenFault) → named ≡ version → handed ≡ frames
-    → IsUnloaded (number_of named) handed limits why → IsUnloaded (number_of version) frames limits why
-unloads_of named version handed frames limits why name hands unloads =
-    subst (λ v. IsUnloaded (number_of v) frames limits why) name (subst (λ fs. IsUnloaded (number_of named) fs limits why) hands unloads)
+-- so of one that isn't begun, or not found
+pub unfound_disk : (limits : Limits) (old new : DiskView) (fault : JournalFault) (why : OpenFault) → why ≡ open_fault fault → IsUnfound old new fault → IsRefusedDisk limits old new why
+unfound_disk limits old new fault why is u = unopened_disk old new u.opens (same_leaves old new u.unwritten.content) u.later limits fault why is u.cause
 
 -- a log that was found, and whose frames are not loaded
 module _ (frames : List Frame) (place version : ℕ) (old mid : DiskView) (limits : Limits) (why : OpenFault) (found : IsFound frames place version old mid)

@@ -1,6 +1,8 @@
 pub mod Answered
 pub mod Called
+pub mod Coming
 pub mod Fits
+pub mod Founds
 pub mod Framed
 pub mod Frames
 pub mod Histories

@@ -1,21 +1,25 @@
 -- The loading of a journal's frames.
-use Rattle.std.proofs.Common.{◌≡◌, ℕ, ◌+◌, ◌-◌, ◌<◌, ◌≤◌, true, false, ◌||◌, nat_lt, List, [], ◌∷◌, ◌++◌, length, take, drop, get_or, Option, Some, refl, sym, ap, subst, ◌∙◌, arith, append_assoc, length-append, take-append-drop}
+use Rattle.std.proofs.Common.{◌≡◌, ℕ, ◌+◌, ◌<◌, ◌≤◌, true, false, ◌||◌, nat_lt, List, [], ◌∷◌, ◌++◌, length, take, drop, get_or, Option, Some, None, refl, sym, ap, subst, ◌∙◌, arith, append_assoc, length-append, take-append-drop}
 use Rattle.std.proofs.lemmas.List.{append-nil, map-append, drop_more, take_more, take_all}
 use Rattle.std.proofs.lemmas.List.Sums.{sum_by-append, sum_by-cons}
 use Rattle.std.proofs.lemmas.Bool.Decides.{nat_tests}
 use Rattle.marc_types.specs.declared.entry.Entry.{Entry}
 use Rattle.marc_types.specs.declared.entry.Limits.{Limits}
 use Rattle.commit_journal.specs.declared.frame.Frame.{Frame}
+use Rattle.commit_journal.specs.declared.version.Version.{Version}
+use Rattle.commit_journal.specs.declared.version.Version.TheVariants.{One}
+use Rattle.commit_journal.specs.Versions.{number_of}
 use Rattle.entry_record.specs.History.{entry_size, entries_size, last_run, IsWithin}
 use Rattle.catalogue_core.specs.Catalogues.{Catalogued, is_full, IsDue, with_entry}
 use Rattle.catalogue_core.specs.declared.catalogue.CoreFault.{CoreFault}
 use Rattle.catalogue_core.specs.declared.catalogue.CoreFault.TheVariants as commit
 use Rattle.entry_history.specs.Payloads.{Holds, IsHistory, NoMore}
 use Rattle.entry_history.specs.Readers.{Taken, Takes}
-use Rattle.durable_catalogue.specs.Loading.{IsUncommitted, IsBuilt, IsLoaded}
+use Rattle.durable_catalogue.specs.Loading.{IsUncommitted, IsBuilt, IsLoaded, IsCatalogueOf}
 use Rattle.commit_journal.specs.Log.{payloads_of}
-use Rattle.durable_catalogue.specs.Openings.{catalogue_of}
+use Rattle.durable_catalogue.specs.Openings.{catalogue_of, IsUnloaded}
 use Rattle.entry_history.specs.Frames.{IsBadFrame}
+use Rattle.durable_catalogue.specs.declared.fault.OpenFault.TheVariants.{OldVersion, Full}
 use Rattle.durable_catalogue.specs.declared.taking.Reading.{Reading}
 use Rattle.durable_catalogue.specs.Taking.{WereTaken}
 use Rattle.durable_catalogue.proofs.Histories.{one_behind, bounded_behind_none}
@@ -109,9 +113,31 @@ loaded_of IsThat limits begun now core reading same taken = record {
   last = taken.last;
 }
 
--- the runs of a history that was loaded are no greater than the number of its entries
-pub bounded_built : (payloads : List (List ℕ)) (limits : Limits) (made : Option Catalogued) (core : Catalogued) (run : ℕ) → made ≡ Some core
-    → IsLoaded (IsHistory 2 [] payloads) limits made run → last_run core.history ≤ length core.history
-bounded_built payloads limits made core run is loaded =
+-- where a catalogue was made, it is of them
+pub catalogue_made : (IsThat : List Entry → Type 0) (limits : Limits) (made : Option Catalogued) (core : Catalogued) (run : ℕ) → made ≡ Some core → IsLoaded IsThat limits made run
+    → IsCatalogueOf IsThat limits core run
+catalogue_made IsThat limits made core run is loaded =
     let built : IsBuilt limits loaded.entries (Some core) = subst (IsBuilt limits loaded.entries) is loaded.built in
-    subst (λ es. last_run es ≤ length es) (sym (ap (λ c. c.history) built.0)) (bounded_behind_none 2 payloads loaded.entries refl loaded.history)
+    let same : core.history ≡ loaded.entries = ap (λ c. c.history) built.0 in
+    record {
+      history = subst IsThat (sym same) loaded.history;
+      core_is = built.0 ∙ ap (λ es. catalogue_of limits es) (sym same);
+      within = subst (IsWithin limits) (sym same) built.1;
+      last = loaded.last ∙ ap (λ es. last_run es) (sym same);
+    }
+
+-- and where none was, they pass the limits
+pub passed_made : (version : ℕ) (frames : List Frame) (limits : Limits) (made : Option Catalogued) (run : ℕ) → made ≡ None → IsLoaded (IsHistory version [] (payloads_of frames)) limits made run
+    → IsUnloaded version frames limits Full
+passed_made version frames limits made run is loaded = (loaded.entries, loaded.history, subst (IsBuilt limits loaded.entries) is loaded.built)
+
+-- the runs of such a history are no greater than the number of its entries
+pub bounded_catalogue : (payloads : List (List ℕ)) (limits : Limits) (core : Catalogued) (run : ℕ) → IsCatalogueOf (IsHistory 2 [] payloads) limits core run
+    → last_run core.history ≤ length core.history
+bounded_catalogue payloads limits core run is = bounded_behind_none 2 payloads core.history refl is.history
+
+-- entries of version 1 are not loaded as those of the newest
+pub old_unloaded : (Has : List Entry → Type 0) (version : Version) (frames : List Frame) (limits within : Limits) (reading : Reading) → version ≡ One
+    → WereTaken Has (IsHistory (number_of version) [] (payloads_of frames)) within reading → IsUnloaded (number_of version) frames limits OldVersion
+old_unloaded Has version frames limits within reading is taken =
+    ((λ two. let one : number_of One ≡ 2 = ap number_of (sym is) ∙ two in absurd (omega (arith, one))), (taken.entries, taken.history))

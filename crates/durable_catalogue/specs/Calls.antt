@@ -1,7 +1,7 @@
 -- Calls of a catalogue over a journal, one after another.
-use Rattle.std.specs.Prelude.{◌≡◌, Bool, is_some}
+use Rattle.std.specs.Prelude.{◌≡◌, ℕ, Bool, true, List, is_some}
 use Rattle.outside.specs.declared.disk.Disk.{Ghosts}
-use Rattle.durable_catalogue.specs.Lasting.{GoesOn}
+use Rattle.durable_catalogue.specs.Lasting.{GoesOn, StartsWith}
 use Rattle.durable_catalogue.specs.declared.durable.Durable.{Durable}
 
 module _ {D : Type 0} {disk : Ghosts D} where
@@ -18,3 +18,7 @@ module _ {D : Type 0} {disk : Ghosts D} where
   pub data AreCalls (first : Durable D disk) : Durable D disk → Type 0 where
     NoCall : AreCalls first first
     OneCall : (old new : Durable D disk) → AreCalls first old → IsCall old new → AreCalls first new
+
+  -- what was committed once stays, however many calls came since: what they may have left starts with it
+  abbrev pub Outlasts : Durable D disk → (Durable D disk → List ℕ → Type 0) → Type 0
+  Outlasts now Left = (earlier : Durable D disk) (c : List ℕ) → AreCalls earlier now → has_told earlier ≡ true → Left earlier c → StartsWith earlier.core.history c

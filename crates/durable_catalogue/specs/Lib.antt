@@ -2,6 +2,7 @@ pub mod Asked
 pub mod Calls
 pub mod Durables
 pub mod Faults
+pub mod Found
 pub mod Images
 pub mod Lasting
 pub mod Loading

@@ -5,6 +5,7 @@ use Rattle.marc_types.specs.declared.entry.Limits.{Limits}
 use Rattle.commit_journal.specs.declared.frame.Frame.{Frame}
 use Rattle.entry_record.specs.History.{IsWithin, last_run}
 use Rattle.entry_history.specs.Payloads.{Holds}
+use Rattle.entry_history.specs.Readers.{Counted, HasExtent}
 use Rattle.catalogue_core.specs.Catalogues.{Catalogued}
 use Rattle.catalogue_core.specs.declared.catalogue.CoreFault.{CoreFault}
 use Rattle.catalogue_core.specs.declared.catalogue.CoreFault.TheVariants as commit
@@ -20,6 +21,10 @@ IsUnreadFrame version before frame NoMemory = Unit {0}
 IsUnreadFrame version before frame OldVersion = ⊥
 IsUnreadFrame version before frame Full = ⊥
 IsUnreadFrame version before frame DeviceFault = ⊥
+
+-- so it is behind whatever entries a reader has counted
+abbrev pub IsUnreadBehind : Counted → Frame → OpenFault → Type 0
+IsUnreadBehind counter frame fault = (before : List Entry) → HasExtent before counter.extent → IsUnreadFrame counter.version before frame fault
 
 -- why entries are not committed up to the last: they pass the limits
 abbrev pub IsUncommitted : Limits → List Entry → CoreFault → Type 0
@@ -37,3 +42,10 @@ pub record IsLoaded (IsThat : List Entry → Type 0) (limits : Limits) (core : O
   pub history : IsThat entries
   pub built : IsBuilt limits entries core
   pub last : run ≡ last_run entries
+
+-- a catalogue of entries that are a history, by some property, within the limits, with nothing staged, and the last of them has that run
+pub record IsCatalogueOf (IsThat : List Entry → Type 0) (limits : Limits) (core : Catalogued) (run : ℕ) : Type 0 where
+  pub history : IsThat core.history
+  pub core_is : core ≡ catalogue_of limits core.history
+  pub within : IsWithin limits core.history
+  pub last : run ≡ last_run core.history

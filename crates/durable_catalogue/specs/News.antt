@@ -25,3 +25,7 @@ kept_or_begun None start = record { start = start; entries = [] }
 pub record IsNewsOf (history : List Entry) (news : KeptNews) : Type 0 where
   pub begins : news.start ≤ length history
   pub entries : news.entries ≡ drop news.start history
+
+-- so many entries are cut off again, whatever they are
+abbrev pub CutsNews : Option KeptNews → ℕ → Option KeptNews → Type 0
+CutsNews old count new = (before : Option KeptNews) (entries : List Entry) → old ≡ option_map (and_entries entries) before → length entries ≡ count → new ≡ before

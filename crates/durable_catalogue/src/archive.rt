@@ -8,7 +8,7 @@ ghost use Rattle.durable_catalogue.specs.Opened.{IsOpenedDisk, IsRefusedDisk};
 ghost use Rattle.entry_record.specs.History.{IsWithin};
 
 use crate::loading::load_either;
-use crate::opening::{find_log, refuse_log, take_log};
+use crate::opening::{begin_log, take_log};
 use crate::{OnClose, OpenFault};
 use catalogue_core::Catalogue;
 use commit_journal::{Journal, Version};
@@ -37,14 +37,13 @@ impl<D: Disk> RecoveredReadOnly<D> {
         ensures refused { IfErr result (λ e. IsRefusedDisk limits (D.seen disk) (D.seen e.0) e.1) }
         ensures current { IfErr result (λ e. e.1 ≢ OldVersion) }
     {
-        let (found, frames) = find_log(alloc, disk)?;
-        match load_either(alloc, found.version(), frames.into_vec(), limits) {
-            Ok(core) => {
-                let journal = take_log(found)?;
-                Ok(RecoveredReadOnly { core, journal })
-            }
-            Err(fault) => Err(refuse_log(found, fault)),
-        }
+        let begun = begin_log(alloc, disk)?;
+        let (found, loaded) = load_either(alloc, begun, limits)?;
+        let journal = take_log(found)?;
+        Ok(RecoveredReadOnly {
+            core: loaded.core,
+            journal,
+        })
     }
 
     /// The catalogue, with nothing staged.

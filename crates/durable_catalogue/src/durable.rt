@@ -3,29 +3,25 @@ ghost use Rattle.std.specs.Prelude.{◌≡◌, ◌≢◌, ℕ, ◌++◌, List, [
 ghost use Rattle.std.proofs.Props.{props};
 ghost use Rattle.marc_types.specs.declared.entry.Entry.{Entry};
 ghost use Rattle.marc_types.specs.declared.entry.CommitFault.TheVariants.{DeviceFault};
-ghost use Rattle.outside.specs.Disk.{LeavesOnly};
 ghost use Rattle.outside.specs.Fault.{Rose};
 ghost use Rattle.commit_journal.specs.Journal.{IsDurableLog};
 ghost use Rattle.commit_journal.specs.Log.{version_of};
 ghost use Rattle.commit_journal.specs.declared.version.Version.TheVariants.{Two};
-ghost use Rattle.entry_record.specs.History.{with_run, next_run, IsWithin};
+ghost use Rattle.entry_record.specs.History.{next_run, IsWithin};
 ghost use Rattle.catalogue_rules.specs.Receipts.{receipts_behind};
-ghost use Rattle.entry_history.specs.Commits.{fitting, frame_of, IsCommit};
 ghost use Rattle.entry_history.specs.Payloads.{CanFollow};
-ghost use Rattle.entry_history.specs.declared.event.Event.{Event};
 ghost use Rattle.durable_catalogue.specs.Logs.{HasHistory};
 ghost use Rattle.durable_catalogue.specs.declared.fault.OpenFault.{OpenFault};
 ghost use Rattle.durable_catalogue.specs.Opened.{IsOpenedDisk, IsRefusedDisk};
-ghost use Rattle.durable_catalogue.specs.Images.{HoldsEntries, HasCommitOrNot};
 ghost use Rattle.durable_catalogue.specs.Lasting.{GoesOn};
 ghost use Rattle.durable_catalogue.specs.News.{IsNewsOf, kept_or_begun, start_of};
-ghost use Rattle.durable_catalogue.specs.Durables.{mark_of, marked, events, is_taken, TookNothing, opening, IsKept, IsLeft, IsLostBy, IsSameOpening};
+ghost use Rattle.durable_catalogue.specs.Durables.{mark_of, marked, is_taken, TookNothing, IsKept, IsLeft, IsLostBy, IsSameOpening};
 
 use crate::effects::{Effects, LoaderEffects};
 use crate::fitting::fitting_part;
-use crate::loading::{Loaded, load};
+use crate::loading::{Loaded, load, run_behind};
 use crate::news::{News, add_news, cut_news};
-use crate::opening::{find_log, refuse_log, take_log};
+use crate::opening::{begin_log, take_log};
 use crate::question::{Ask, Told, tell_since, tell_status};
 use crate::staging::stage_all;
 use crate::{OnClose, OpenFault};
@@ -83,6 +79,9 @@ fn nothing(alloc: Global, end: CommitFault) -> BatchReply
 }
 
 impl<D: Disk> Durable<D> {
+    ghost use Rattle.durable_catalogue.specs.Calls.{has_told};
+    ghost use Rattle.durable_catalogue.specs.Views.{durable_view, frame_for, IsAnsweredBatch, LeavesFrameOrNot, LeavesBatchOrNot, HoldsCommitted, HasCommitted};
+
     /// Opens a log that a crash may have left: its history is the catalogue's. A fault hands the disk back. A crash during an
     /// opening that has synced leaves the same history.
     pub fn open(alloc: Global, disk: D, limits: Limits) -> Result<Self, (D, OpenFault)>
@@ -106,28 +105,25 @@ impl<D: Disk> Durable<D> {
         ensures old_first { IfErr result (λ e. e.1 ≡ OpenFault.Full → (log : List ℕ) → (D.seen disk).content ≡ Some log → version_of log ≡ 2) }
     {
         let before = Snapshot::of(&disk);
-        let (found, frames) = find_log(alloc, disk)?;
-        match load(alloc, found.version(), frames.into_vec(), limits) {
-            Ok(loaded) => {
-                let journal = take_log(found)?;
-                let first = Snapshot::of(&journal);
-                let Loaded { core, run } = loaded;
-                let opened = core.history_len();
-                Ok(Durable {
-                    alloc,
-                    core,
-                    journal,
-                    run,
-                    opened,
-                    mark: None,
-                    news: None,
-                    effects: LoaderEffects::none(),
-                    before,
-                    first,
-                })
-            }
-            Err(fault) => Err(refuse_log(found, fault)),
-        }
+        let begun = begin_log(alloc, disk)?;
+        let (found, loaded) = load(alloc, begun, limits)?;
+        let journal = take_log(found)?;
+        let first = Snapshot::of(&journal);
+        let Loaded { core, last_run } = loaded;
+        let run = run_behind(&core, last_run);
+        let opened = core.history_len();
+        Ok(Durable {
+            alloc,
+            core,
+            journal,
+            run,
+            opened,
+            mark: None,
+            news: None,
+            effects: LoaderEffects::none(),
+            before,
+            first,
+        })
     }
 
     /// From now on the headings of all entries that are committed are kept, so that these can be asked for, if they weren't already.
@@ -172,16 +168,14 @@ impl<D: Disk> Durable<D> {
     /// sync has all that was there at the opening. This is a law for proofs; the call does nothing.
     #[tactic(auto, using(crate::proofs::Keeping::left_of))]
     pub fn is_kept(&self)
-        ensures { IsLeft (opening self.now.core.limits self.now.run self.now.opened (D.seen self.now.before.value) (D.seen self.now.first.value.disk))
-            self.now.core.history (marked (mark_of self.now.mark)) (D.seen self.now.journal.disk) }
+        ensures { IsLeft (durable_view self.now).opened self.now.core.history (marked (mark_of self.now.mark)) (D.seen self.now.journal.disk) }
     {}
 
     /// Gives the disk back, with all that was committed.
     #[tactic(auto, using(crate::proofs::Keeping::left_of))]
     pub fn close(self, memory: OnClose) -> D
         ensures disk { result ≡ self.journal.disk }
-        ensures left { IsLeft (opening self.core.limits self.run self.opened (D.seen self.before.value) (D.seen self.first.value.disk))
-            self.core.history (marked (mark_of self.mark)) (D.seen result) }
+        ensures left { IsLeft (durable_view self).opened self.core.history (marked (mark_of self.mark)) (D.seen result) }
         ensures few { length (marked (mark_of self.mark)) ≤ 32 }
 
         // Without a mark the log ends with its closed gate, and is all that a crash may leave; it has exactly the history.
@@ -211,8 +205,7 @@ impl<D: Disk> Durable<D> {
         ensures unmarked { OnOk result (self.new.mark ≡ self.old.mark) }
         ensures nothing { OnErr result (self.new.core.history ≡ self.old.core.history) }
         ensures fault { IfErr result (λ fault. IsLostBy fault (mark_of self.new.mark) frame) }
-        ensures crash { (log : List ℕ) → (D.seen self.old.journal.disk).content ≡ Some log → LeavesOnly (D.seen self.old.journal.disk) (D.seen self.new.journal.disk)
-            (HasCommitOrNot self.old.core.history frame log) }
+        ensures crash { (log : List ℕ) → (D.seen self.old.journal.disk).content ≡ Some log → LeavesFrameOrNot self.old self.new frame log }
         ensures quiet { IfErr result (λ fault. fault ≢ DeviceFault → self.new.journal ≡ self.old.journal) }
         ensures later { (D.seen self.old.journal.disk).moment ≤ (D.seen self.new.journal.disk).moment }
         ensures cause { IfErr result (λ fault. fault ≡ DeviceFault → Rose (D.seen self.old.journal.disk).faults (D.seen self.new.journal.disk).faults) }
@@ -260,26 +253,19 @@ impl<D: Disk> Durable<D> {
         requires { batch ≢ [] }
 
         // The reply, and what it adds to the history.
-        ensures reply { (added : List Event) × (events self.new.core.history (mark_of self.new.mark) ≡ events self.old.core.history (mark_of self.old.mark) ++ added)
-            × IsCommit (record { limits = self.old.core.limits; run = self.old.run }) (events self.old.core.history (mark_of self.old.mark)) batch result added }
+        ensures reply { IsAnsweredBatch self.old self.new batch result }
 
         // Each image at each moment of the call, and the images at its end where the frame is committed.
-        ensures crash { (log : List ℕ) → is_some self.old.mark ≡ false → (D.seen self.old.journal.disk).content ≡ Some log
-            → LeavesOnly (D.seen self.old.journal.disk) (D.seen self.new.journal.disk)
-            (HasCommitOrNot self.old.core.history (fitting self.old.core.limits self.old.core.history (with_run self.old.run batch)) log) }
-        ensures all { (log c : List ℕ) → is_taken result.end ≡ true → (D.seen self.new.journal.disk).content ≡ Some log
-            → (D.seen self.new.journal.disk).image c → HasHistory self.new.core.history c }
+        ensures crash { LeavesBatchOrNot self.old self.new batch }
+        ensures all { HasCommitted self.new result.end }
 
         // Each image at the end of the call has all that was committed by then, whatever this call and those before it answered.
-        ensures held { (c : List ℕ) → is_some (D.seen self.new.before.value).content ≡ true → (D.seen self.new.journal.disk).image c
-            → HoldsEntries (length self.new.core.history) self.new.core.history (marked (mark_of self.new.mark)) c }
+        ensures held { HoldsCommitted self.new }
 
         // What was committed before stays at each moment of the call, whatever it answers; an end that is none or Full says that the
         // frame is committed too, and behind a device fault at most 32 entries are in doubt.
-        ensures goes_on { GoesOn (is_some (D.seen self.old.before.value).content) self.old.core.history self.new.core.history
-            (D.seen self.old.journal.disk) (D.seen self.new.journal.disk) }
-        ensures taken { is_taken result.end ≡ true → self.new.core.history
-            ≡ self.old.core.history ++ fitting self.old.core.limits self.old.core.history (with_run self.old.run batch) }
+        ensures goes_on { GoesOn (has_told self.old) self.old.core.history self.new.core.history (D.seen self.old.journal.disk) (D.seen self.new.journal.disk) }
+        ensures taken { is_taken result.end ≡ true → self.new.core.history ≡ self.old.core.history ++ frame_for self.old batch }
         ensures few { length (marked (mark_of self.new.mark)) ≤ 32 }
 
         // A commit that took nothing made no call on the disk, unless a device failed in it.

@@ -7,7 +7,7 @@ pub use effects::Effects;
 pub use fault::{OpenFault, open_fault};
 pub use loading::Building;
 pub use memory::OnClose;
-pub use opening::{find_log, refuse_log, take_log};
+pub use opening::{begin_log, find_entries, refuse_log, take_log};
 pub use question::{Ask, Told};
 pub use seen::Seen;
 pub use taking::{EntryTaker, Reading, take_frames};

@@ -1,30 +1,30 @@
-//! The catalogue that a journal's frames hold.
+//! The catalogue that a log's frames hold, which takes them as they are read.
 ghost use Rattle.std.specs.Prelude.{◌≡◌, ◌≢◌, ◌<◌, ◌≤◌, ◌++◌, ◌∷◌, [], length, IfSome, IfOk, IfErr, OnOk, OnErr};
 ghost use Rattle.std.proofs.Props.{props};
-ghost use Rattle.commit_journal.specs.Versions.{number_of};
 ghost use Rattle.entry_record.specs.History.{last_run, next_run, IsWithin};
-ghost use Rattle.entry_history.specs.Payloads.{IsHistory};
-ghost use Rattle.durable_catalogue.specs.declared.fault.OpenFault.TheVariants.{DeviceFault, OldVersion, Full};
-ghost use Rattle.durable_catalogue.specs.Loading.{IsUncommitted, IsBuilt, IsLoaded};
-ghost use Rattle.commit_journal.specs.Log.{payloads_of};
-ghost use Rattle.durable_catalogue.specs.Openings.{IsUnloaded, IsUnread, catalogue_of};
+ghost use Rattle.durable_catalogue.specs.declared.fault.OpenFault.TheVariants.{OldVersion, Full};
+ghost use Rattle.durable_catalogue.specs.Found.{Finds, RefusesBegun, RefusesWithin};
+ghost use Rattle.durable_catalogue.specs.Loading.{IsUncommitted, IsBuilt, IsLoaded, IsCatalogueOf};
+ghost use Rattle.durable_catalogue.specs.Openings.{catalogue_of};
 
 use crate::OpenFault;
-use crate::taking::{EntryTaker, Passing, take_frames};
+use crate::opening::{find_entries, refuse_log};
+use crate::taking::{EntryTaker, Passing};
 use catalogue_core::{Catalogue, CoreFault};
 use catalogue_rules::Steps;
-use commit_journal::{Frame, Version};
+use commit_journal::{BegunLog, FoundLog, Version};
 use entry_record::Prepared;
 use marc_types::{Limits, NoMemory};
+use outside::Disk;
 use std::alloc::Global;
 use std::marker::Brand;
 use std::sync::ledger::{Blank, Ledger};
 
-/// A catalogue, and the run of what is committed to it.
+/// A catalogue, and the run of its last entry, or 0.
 #[derive(Drop)]
 pub struct Loaded {
     pub core: Catalogue,
-    pub run: u64,
+    pub last_run: u64,
 }
 
 /// Commits an entry, where it passes no limit.
@@ -94,78 +94,81 @@ impl<L: Ledger> EntryTaker for Building<L> {
     }
 }
 
-/// What is made of a journal's frames: the catalogue of their entries, or none, where these pass the limits, and the run of the last
-/// entry, or 0.
+/// What is made of a log's frames: the catalogue of their entries, or none, where these pass the limits, and the run of the last entry,
+/// or 0.
 #[derive(Drop)]
 struct Built {
     core: Option<Catalogue>,
     last_run: u64,
 }
 
-/// Makes a catalogue of a journal's frames. Once the limits are passed the others are still read: a bad one decides first.
-fn build_in<L: Ledger>(
+/// Finds a log, and makes a catalogue of its frames as they are read. Once the limits are passed the others are still read: a bad one decides
+/// first.
+fn build_in<L: Ledger, D: Disk>(
     alloc: Global,
-    version: Version,
-    frames: Vec<Frame>,
+    begun: BegunLog<D>,
     limits: Limits,
     blank: Blank,
-) -> Result<Built, OpenFault>
+) -> Result<(FoundLog<D>, Built), (D, OpenFault)>
     requires name { blank.name ≡ L.name }
     requires parts { blank.parts ≡ L.parts }
     requires shared { 0 < blank.parts }
-    ensures loaded { IfOk result (λ built. IsLoaded (IsHistory (number_of version) [] (payloads_of frames.items)) limits built.core built.last_run) }
-    ensures fault { IfErr result (IsUnread (number_of version) frames.items) }
-    ensures current { IfErr result (λ fault. fault ≢ OldVersion) }
-    ensures unbuilt { IfErr result (λ fault. fault ≢ Full) }
-    ensures no_device { IfErr result (λ fault. fault ≢ DeviceFault) }
+    ensures found { IfOk result (λ r. Finds (λ IsThat. IsLoaded IsThat limits r.1.core r.1.last_run) begun r.0) }
+    ensures refused { IfErr result (λ e. RefusesBegun begun e.0 e.1) }
+    ensures current { IfErr result (λ e. e.1 ≢ OldVersion) }
+    ensures unfilled { IfErr result (λ e. e.1 ≢ Full) }
 {
     let mut building = Building::<L>::new(alloc, limits, blank);
-    let reading = take_frames(alloc, version, frames, limits, &mut building)?;
-    Ok(Built {
-        core: building.core,
-        last_run: reading.last_run,
-    })
+    match find_entries(alloc, begun, limits, &mut building) {
+        Ok((found, reading)) => {
+            let built = Built {
+                core: building.core,
+                last_run: reading.last_run,
+            };
+            Ok((found, built))
+        }
+        Err(refused) => Err(refused),
+    }
 }
 
 /// The same, with its steps counted in a ledger of its own.
-fn build(
+fn build<D: Disk>(
     alloc: Global,
-    version: Version,
-    frames: Vec<Frame>,
+    begun: BegunLog<D>,
     limits: Limits,
-) -> Result<Built, OpenFault>
-    ensures loaded { IfOk result (λ built. IsLoaded (IsHistory (number_of version) [] (payloads_of frames.items)) limits built.core built.last_run) }
-    ensures fault { IfErr result (IsUnread (number_of version) frames.items) }
-    ensures current { IfErr result (λ fault. fault ≢ OldVersion) }
-    ensures unbuilt { IfErr result (λ fault. fault ≢ Full) }
-    ensures no_device { IfErr result (λ fault. fault ≢ DeviceFault) }
+) -> Result<(FoundLog<D>, Built), (D, OpenFault)>
+    ensures found { IfOk result (λ r. Finds (λ IsThat. IsLoaded IsThat limits r.1.core r.1.last_run) begun r.0) }
+    ensures refused { IfErr result (λ e. RefusesBegun begun e.0 e.1) }
+    ensures current { IfErr result (λ e. e.1 ≢ OldVersion) }
+    ensures unfilled { IfErr result (λ e. e.1 ≢ Full) }
 {
-    build_in::<Brand>(alloc, version, frames, limits, Blank::new(1))
+    build_in::<Brand, D>(alloc, begun, limits, Blank::new(1))
 }
 
-/// The catalogue whose history the frames of a journal of either version hold.
-pub fn load_either(
+/// Finds a log of either version, and answers the catalogue whose history its frames hold. It writes nothing. A fault hands the disk back.
+pub fn load_either<D: Disk>(
     alloc: Global,
-    version: Version,
-    frames: Vec<Frame>,
+    begun: BegunLog<D>,
     limits: Limits,
-) -> Result<Catalogue, OpenFault>
-    ensures history { IfOk result (λ core. IsHistory (number_of version) [] (payloads_of frames.items) core.history) }
-    ensures core { IfOk result (λ core. core ≡ catalogue_of limits core.history) }
-    ensures within { IfOk result (λ core. IsWithin limits core.history) }
-    ensures fault { IfErr result (IsUnloaded (number_of version) frames.items limits) }
-    ensures no_device { IfErr result (λ fault. fault ≢ DeviceFault) }
-    ensures current { IfErr result (λ fault. fault ≢ OldVersion) }
+) -> Result<(FoundLog<D>, Loaded), (D, OpenFault)>
+    ensures found { IfOk result (λ r. Finds (λ IsThat. IsCatalogueOf IsThat limits r.1.core r.1.last_run) begun r.0) }
+    ensures refused { IfErr result (λ e. RefusesWithin limits begun e.0 e.1) }
+    ensures current { IfErr result (λ e. e.1 ≢ OldVersion) }
 {
-    let Built { core, .. } = build(alloc, version, frames, limits)?;
-    match core {
-        Some(core) => Ok(core),
-        None => Err(OpenFault::Full),
+    match build(alloc, begun, limits) {
+        Ok((found, built)) => {
+            let Built { core, last_run } = built;
+            match core {
+                Some(core) => Ok((found, Loaded { core, last_run })),
+                None => Err(refuse_log(found, OpenFault::Full)),
+            }
+        }
+        Err(refused) => Err(refused),
     }
 }
 
 /// The run of what is committed behind a catalogue's history, whose last entry has that run.
-fn run_behind(core: &Catalogue, last: u64) -> u64
+pub fn run_behind(core: &Catalogue, last: u64) -> u64
     requires unstaged { core.now.staged ≡ [] }
     requires last { last ≡ last_run core.now.history }
     requires bounded { last_run core.now.history ≤ length core.now.history }
@@ -176,47 +179,31 @@ fn run_behind(core: &Catalogue, last: u64) -> u64
     last + 1
 }
 
-/// The catalogue whose history the frames of a journal of the newest version hold.
-fn load_newest(alloc: Global, frames: Vec<Frame>, limits: Limits) -> Result<Loaded, OpenFault>
-    ensures history { IfOk result (λ l. IsHistory 2 [] (payloads_of frames.items) l.core.history) }
-    ensures core { IfOk result (λ l. l.core ≡ catalogue_of limits l.core.history) }
-    ensures within { IfOk result (λ l. IsWithin limits l.core.history) }
-    ensures run { IfOk result (λ l. l.run ≡ next_run l.core.history) }
-    ensures fault { IfErr result (IsUnloaded 2 frames.items limits) }
-    ensures no_device { IfErr result (λ fault. fault ≢ DeviceFault) }
+/// Reads all payloads of a log of version 1, of which no catalogue is made, and refuses it.
+fn refuse_old<D: Disk>(alloc: Global, begun: BegunLog<D>, limits: Limits) -> (D, OpenFault)
+    requires old { begun.version ≡ Version.One }
+    ensures refused { RefusesWithin limits begun result.0 result.1 }
+    ensures unfilled { result.1 ≢ Full }
 {
-    let Built { core, last_run } = build(alloc, Version::Two, frames, limits)?;
-    match core {
-        Some(core) => {
-            let run = run_behind(&core, last_run);
-            Ok(Loaded { core, run })
-        }
-        None => Err(OpenFault::Full),
+    match find_entries(alloc, begun, limits, &mut Passing) {
+        Ok((found, _reading)) => refuse_log(found, OpenFault::OldVersion),
+        Err(refused) => refused,
     }
 }
 
-/// The catalogue whose history the frames of a journal of the newest version hold. An old version is answered before a full one.
-pub fn load(
+/// Finds a log of the newest version, and answers the catalogue whose history its frames hold. An old version is answered before a full one.
+pub fn load<D: Disk>(
     alloc: Global,
-    version: Version,
-    frames: Vec<Frame>,
+    begun: BegunLog<D>,
     limits: Limits,
-) -> Result<Loaded, OpenFault>
-    ensures history { IfOk result (λ l. IsHistory 2 [] (payloads_of frames.items) l.core.history) }
-    ensures version { OnOk result (version ≡ Version.Two) }
-    ensures core { IfOk result (λ l. l.core ≡ catalogue_of limits l.core.history) }
-    ensures within { IfOk result (λ l. IsWithin limits l.core.history) }
-    ensures run { IfOk result (λ l. l.run ≡ next_run l.core.history) }
-    ensures fault { IfErr result (IsUnloaded (number_of version) frames.items limits) }
-    ensures old_first { IfErr result (λ fault. fault ≡ Full → version ≡ Version.Two) }
-    ensures no_device { IfErr result (λ fault. fault ≢ DeviceFault) }
+) -> Result<(FoundLog<D>, Loaded), (D, OpenFault)>
+    ensures found { IfOk result (λ r. Finds (λ IsThat. IsCatalogueOf IsThat limits r.1.core r.1.last_run) begun r.0) }
+    ensures newest { OnOk result (begun.version ≡ Version.Two) }
+    ensures refused { IfErr result (λ e. RefusesWithin limits begun e.0 e.1) }
+    ensures old_first { IfErr result (λ e. e.1 ≡ Full → begun.version ≡ Version.Two) }
 {
-    match version {
-        Version::One => {
-            // all payloads are read first
-            take_frames(alloc, version, frames, limits, &mut Passing)?;
-            Err(OpenFault::OldVersion)
-        }
-        Version::Two => load_newest(alloc, frames, limits),
+    match begun.version() {
+        Version::One => Err(refuse_old(alloc, begun, limits)),
+        Version::Two => load_either(alloc, begun, limits),
     }
 }

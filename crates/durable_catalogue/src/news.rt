@@ -3,7 +3,7 @@ ghost use Rattle.std.specs.Prelude.{◌≡◌, ◌++◌, [], List, Option, lengt
 ghost use Rattle.std.specs.Option.{option_map};
 ghost use mathlib.Core.List.{IsPrefix};
 ghost use Rattle.marc_types.specs.declared.entry.Entry.{Entry as AnyEntry};
-ghost use Rattle.durable_catalogue.specs.News.{KeptNews, and_entries};
+ghost use Rattle.durable_catalogue.specs.News.{and_entries, CutsNews};
 
 use entry_record::Prepared;
 use heading_rows::{Heading, Headings};
@@ -109,8 +109,7 @@ pub fn add_news(alloc: Global, news: &mut Option<News>, items: &[Prepared]) -> R
 
 /// Takes the last so many entries away again, where news is kept.
 pub fn cut_news(news: &mut Option<News>, count: u32)
-    ensures { (before : Option KeptNews) (entries : List AnyEntry) → news.old ≡ option_map (and_entries entries) before
-        → length entries ≡ count → news.new ≡ before }
+    ensures { CutsNews news.old count news.new }
 {
     if let Some(news) = news {
         let kept = news.headings.len().saturating_sub(count as usize);

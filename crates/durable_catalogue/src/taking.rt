@@ -1,22 +1,22 @@
 //! The entries of a journal's frames, taken one behind the other.
-ghost use Rattle.std.specs.Prelude.{◌≡◌, ◌≢◌, ◌↔◌, ◌++◌, ◌∷◌, ℕ, [], List, length, IsTrue, IfOk, IfErr, OnOk};
+ghost use Rattle.std.specs.Prelude.{◌≡◌, ◌≢◌, ◌↔◌, ◌++◌, ◌∷◌, ℕ, [], List, length, Some, None, IsTrue, IfOk, IfErr, OnOk};
 ghost use Rattle.marc_types.specs.declared.entry.Entry.{Entry as AnyEntry};
 ghost use Rattle.commit_journal.specs.Versions.{number_of};
 ghost use Rattle.entry_record.specs.History.{IsWithin};
 ghost use Rattle.entry_history.specs.Payloads.{IsHistory};
-ghost use Rattle.entry_history.specs.Readers.{HasExtent, CountsEntries};
-ghost use Rattle.durable_catalogue.specs.declared.fault.OpenFault.TheVariants.{DeviceFault, OldVersion, Full};
-ghost use Rattle.durable_catalogue.specs.Loading.{IsUnreadFrame};
+ghost use Rattle.entry_history.specs.Readers.{HasExtent};
+ghost use Rattle.durable_catalogue.specs.declared.fault.OpenFault.TheVariants.{DeviceFault, NotAJournal, OldVersion, Full};
+ghost use Rattle.durable_catalogue.specs.Loading.{IsUnreadBehind};
 ghost use Rattle.commit_journal.specs.Log.{payloads_of};
 ghost use Rattle.durable_catalogue.specs.Openings.{IsUnread};
-ghost use Rattle.durable_catalogue.specs.Taking.{WereTaken, HasLeft};
+ghost use Rattle.durable_catalogue.specs.Taking.{WereTaken, HasLeft, HandsFrameOn, TellsFit, ReadsPayload};
 
 use crate::OpenFault;
-use commit_journal::{Frame, Version};
+use commit_journal::{Frame, FrameTaker, Version};
 use entry_history::{EntryFault, HistoryCounter};
 use entry_record::Prepared;
 use marc_types::{Limits, NoMemory};
-use std::alloc::Global;
+use std::alloc::{AllocError, Global};
 
 /// What takes the entries of a history one behind the other.
 pub trait EntryTaker {
@@ -29,7 +29,7 @@ pub trait EntryTaker {
 }
 
 /// A counter of a journal's entries, of which none was read.
-fn counter_of(version: Version) -> HistoryCounter
+pub(crate) fn counter_of(version: Version) -> HistoryCounter
     ensures version { result.version ≡ number_of version }
     ensures none { HasExtent [] result.extent }
     ensures count { result.extent.count ≡ 0 }
@@ -43,11 +43,9 @@ fn read_frame(
     counter: &mut HistoryCounter,
     frame: &Frame,
 ) -> Result<Vec<Prepared>, OpenFault>
-    ensures read { IfOk result (λ items. (before : List AnyEntry) → HasExtent before counter.old.extent
-        → CountsEntries counter.old before items.items frame.now.payload counter.new) }
+    ensures read { IfOk result (λ items. ReadsPayload counter.old items.items frame.now.payload counter.new) }
     ensures version { counter.new.version ≡ counter.old.version }
-    ensures fault { IfErr result (λ fault. (before : List AnyEntry) → HasExtent before counter.old.extent
-        → IsUnreadFrame counter.old.version before frame.now fault) }
+    ensures fault { IfErr result (IsUnreadBehind counter.old frame.now) }
 {
     let payload = frame.payload.as_slice();
     // so many bytes are in no memory
@@ -159,4 +157,81 @@ impl EntryTaker for Passing {
     fn take(&mut self, _alloc: Global, _item: Prepared) -> Result<(), NoMemory> {
         Ok(())
     }
+}
+
+/// Hands on the entries of a journal's next frame, behind those of the frames before it, and lets it go. Where its payload isn't valid it
+/// answers the place of its gate.
+fn take_frame<T: EntryTaker>(
+    alloc: Global,
+    counter: &mut HistoryCounter,
+    frame: Frame,
+    taker: &mut T,
+    left: &mut Option<u64>,
+) -> Result<Option<u64>, NoMemory>
+    ensures { IfOk result (HandsFrameOn T.has taker.old taker.new frame counter.old counter.new left.old left.new) }
+{
+    match read_frame(alloc, counter, &frame) {
+        Ok(items) => {
+            hand_on(alloc, items, taker, left)?;
+            Ok(None)
+        }
+        Err(OpenFault::NotAJournal(gate)) => Ok(Some(gate)),
+        Err(_) => Err(NoMemory),
+    }
+}
+
+/// Takes the frames of a journal as they are read, and hands on their entries, up to the first frame whose payload isn't valid. It keeps
+/// no payload.
+#[derive(Drop)]
+pub(crate) struct FrameEntries<'a, T: EntryTaker> {
+    pub(crate) taker: &'a mut T,
+    pub(crate) counter: HistoryCounter,
+    /// What is left of the bytes of the limits.
+    pub(crate) left: Option<u64>,
+    /// The gate of the first frame whose payload isn't valid: what comes behind it is let go.
+    pub(crate) bad: Option<u64>,
+}
+
+impl<'a, T: EntryTaker> FrameTaker for FrameEntries<'a, T> {
+    ghost use Rattle.std.specs.Prelude.{◌≡◌};
+    ghost use Rattle.durable_catalogue.specs.Taking.{AreHandedOn};
+
+    // It holds the same reference throughout: what is behind it at the end is what the lender gets back.
+    ghost has = { λ begun now frames. (now.taker.ghost_name ≡ begun.taker.ghost_name)
+        × AreHandedOn (T.has begun.taker.now now.taker.now) begun.counter.version begun.left frames now.counter now.left now.bad };
+
+    fn take(&mut self, alloc: Global, frame: Frame) -> Result<(), AllocError> {
+        if self.bad.is_some() {
+            return Ok(());
+        }
+        match take_frame(alloc, &mut self.counter, frame, self.taker, &mut self.left) {
+            Ok(bad) => {
+                self.bad = bad;
+                Ok(())
+            }
+            Err(NoMemory) => Err(AllocError),
+        }
+    }
+}
+
+/// What was read of all frames, so many entries, which leave that of the bytes of the limits; a fault where a payload wasn't valid.
+#[tactic(auto, using(crate::proofs::Coming::fits_told))]
+pub(crate) fn reading_of(
+    counter: &HistoryCounter,
+    left: Option<u64>,
+    bad: Option<u64>,
+    limits: Limits,
+) -> Result<Reading, OpenFault>
+    ensures last { IfOk result (λ reading. reading.last_run ≡ counter.now.extent.last_run) }
+    ensures fits { IfOk result (λ reading. TellsFit limits left counter.now.extent.count reading.fits) }
+    ensures whole { OnOk result (bad ≡ None) }
+    ensures bad { IfErr result (λ fault. (gate : ℕ) × (bad ≡ Some gate) × (fault ≡ NotAJournal gate)) }
+{
+    if let Some(gate) = bad {
+        return Err(OpenFault::NotAJournal(gate));
+    }
+    Ok(Reading {
+        last_run: counter.last_run(),
+        fits: are_within(limits, counter.count(), left),
+    })
 }

@@ -1,6 +1,7 @@
 pub mod Candidates
 pub mod Forms
 pub mod Index
+pub mod Laws
 pub mod Listed
 pub mod Order
 pub mod Paged

@@ -1,10 +1,11 @@
 //! Laws of the index: each is the contract of a function that does nothing.
-ghost use Rattle.std.specs.Prelude.{◌≡◌, ◌<◌, List, length};
+ghost use Rattle.std.specs.Prelude.{List};
 ghost use Rattle.std.specs.List.{IsDistinct};
 ghost use Rattle.std.specs.Ordering.{eq_by_cmp};
 ghost use Rattle.marc_types.specs.Order.{key_cmp};
 ghost use Rattle.numbering.specs.Numbers.{Keeps};
-ghost use Rattle.form_index.specs.Index.{Indexed, IsInOrder, Taken, put_back};
+ghost use Rattle.form_index.specs.Index.{Indexed, IsInOrder, Taken};
+ghost use Rattle.form_index.specs.Laws.{ComesBack};
 
 use crate::FormIndex;
 use marc_types::Key;
@@ -22,6 +23,5 @@ pub fn order_stays(index: &FormIndex, keys: &Numbering<Key>)
 /// A row that was taken comes back to the same places, also when keys were numbered since.
 #[tactic(auto, using(crate::proofs::Growing::put_back_kept))]
 pub fn a_row_comes_back_to_its_places()
-    ensures { (before now : List Key) (row : Taken) (x : Indexed) → Keeps (eq_by_cmp key_cmp) before now → IsDistinct (eq_by_cmp key_cmp) before
-        → row.number < length before → IsInOrder before x → put_back now row x ≡ put_back before row x }
+    ensures { (before now : List Key) (row : Taken) (x : Indexed) → ComesBack before now row x }
 {}

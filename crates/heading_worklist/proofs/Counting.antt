@@ -13,7 +13,6 @@ use Rattle.std.specs.List.{count_by}
 use Rattle.std.specs.declared.cmp.Ordering.{Ordering}
 use Rattle.std.specs.Cmp.{IsTotalOrder}
 use Rattle.std.proofs.lemmas.List.Sums.{sum_by-cons}
-use Rattle.marc_types.specs.declared.entry.Tie.{Tie}
 use Rattle.marc_types.specs.declared.field.Field.{Field}
 use Rattle.marc_types.specs.declared.key.Key.{Key}
 use Rattle.marc_types.specs.Order.{key_cmp, key_cmp_total, same_key}
@@ -22,7 +21,7 @@ use Rattle.catalogue_rules.specs.State.{KeptField, Row, new_field}
 use Rattle.numbered_store.specs.Kept.{kept_record, shown_row}
 use Rattle.numbered_store.specs.declared.kept.StoredRecord.{StoredRecord}
 use Rattle.heading_worklist.specs.Counts.{StatedForm, Compared, Counted, stated, stated_cmp_total, counted_among, counted_cmp, in_order, same_stated}
-use Rattle.heading_worklist.specs.Counting.{AreTimes, counted_by, is_tied_to, linked_times, stated_times}
+use Rattle.heading_worklist.specs.Counting.{AreTimes, counted_by, linked_times, stated_times}
 use Rattle.heading_worklist.specs.Lines.{links_in}
 
 more_by : (b : Bool) (n new : ℕ) (here old : Option ℕ) → new ≡ unwrap_or (cond b (Some (n + 1)) old) 0 → (b ≡ true → n ≡ unwrap_or old 0)
@@ -54,14 +53,6 @@ pub one_link : (old new : BTreeMap Key ℕ) (thing : Key) (n : ℕ) → n ≡ li
 one_link old new thing n was now k =
     more_of key_cmp_total old.entries new.entries thing n was k (now.0 k)
     ∙ ap (λ b. linked_times old k + (if b then 1 else 0)) ((eq_by_cmp_equiv key_cmp_total).symm thing k)
-
--- ties of fields are links as the fields are
-pub ties_of_fields : (k : Key) (hs : List KeptField) → count_by (is_tied_to k) (map (λ h. h.tie) hs) ≡ count_by (is_linked_to k) hs
-ties_of_fields k [] = refl
-ties_of_fields k (h ∷ hs) =
-    let left = sum_by-cons (λ (t : Tie). cond (is_tied_to k t) 1 0) h.tie (map (λ (h : KeptField). h.tie) hs) in
-    let right = sum_by-cons (λ (h : KeptField). cond (is_linked_to k h) 1 0) h hs in
-    omega (arith, left, right, ties_of_fields k hs)
 
 -- new fields aren't linked
 pub none_linked : (k : Key) (fs : List Field) → count_by (is_linked_to k) (map new_field fs) ≡ 0

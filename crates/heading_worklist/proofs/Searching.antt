@@ -1,11 +1,11 @@
 -- The first of a list that passes, found place by place.
 use Rattle.std.proofs.Common.{◌≡◌, ◌∙◌, refl, sym, ap, subst, arith, ℕ, ◌+◌, ◌<◌, zero, suc, Bool, true, false, cond, List, [], ◌∷◌, get_or, length, take, Option, Some, None}
-use Rattle.std.specs.Prelude.{◌||◌, find, slice_get}
+use Rattle.std.specs.Prelude.{find, slice_get}
 use Rattle.std.specs.List.{list_any}
 use Rattle.std.specs.Option.{option_map_or}
 use Rattle.std.specs.Borrow.{Bor}
 use Rattle.std.proofs.lemmas.List.{get_or-map, length-map}
-use Rattle.std.proofs.lemmas.List.Folds.{list_any_at, list_any_more}
+use Rattle.std.proofs.lemmas.List.Folds.{list_any_at}
 use Rattle.marc_types.specs.declared.key.Key.{Key}
 use Rattle.catalogue_tables.specs.Sharing.{shown_keys}
 
@@ -42,12 +42,6 @@ module _ {A : Type 0} (test : A → Bool) where
   -- what passes at a place settles the answer
   pub some_pass : (xs : List A) (i : ℕ) (x : A) → i < length xs → x ≡ get_or xs i x → test x ≡ true → list_any test xs ≡ true
   some_pass xs i x within is so = list_any_at test xs i x within (ap test (sym is) ∙ so)
-
-  -- what doesn't pass leaves it open
-  pub none_pass : (xs : List A) (i : ℕ) (x : A) → i < length xs → x ≡ get_or xs i x → list_any test (take i xs) ≡ false → test x ≡ false
-      → list_any test (take (i + 1) xs) ≡ false
-  none_pass xs i x within is none so =
-      list_any_more test xs i x within ∙ ap (λ (b : Bool). b || test (get_or xs i x)) none ∙ ap test (sym is) ∙ so
 
 -- what passes among keys as they are lent
 pub some_lent : (test : Key → Bool) (keys : List (Bor Key)) (i : ℕ) (key : Bor Key) → i < length keys → key ≡ get_or keys i key → test key.now ≡ true

@@ -2,6 +2,7 @@ pub mod Authorities
 pub mod Counting
 pub mod Counts
 pub mod Csv
+pub mod Filling
 pub mod Found
 pub mod Headings
 pub mod Identifying
@@ -10,3 +11,4 @@ pub mod Reasons
 pub mod Texts
 pub mod Wanted
 pub mod Worklist
+pub mod Written

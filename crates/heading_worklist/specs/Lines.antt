@@ -10,7 +10,7 @@ use Rattle.marc_types.specs.Order.{same_key}
 use Rattle.heading_fields.specs.Numbers.{key_text}
 use Rattle.catalogue_rules.specs.Settle.{is_linked_to}
 use Rattle.catalogue_rules.specs.State.{Row, State, linkable_authorities}
-use Rattle.catalogue_rules.specs.Output.{tag_text}
+use Rattle.catalogue_rules.specs.Output.{is_least_of, tag_text}
 use Rattle.catalogue_rules.specs.Receipt.{kept_under}
 use Rattle.catalogue_tables.specs.Sharing.{keys_crossing, keys_sharing}
 use Rattle.heading_worklist.specs.Csv.{CsvLine}
@@ -135,10 +135,7 @@ member_line s group key = authority_line s (codes "shared") (other_keys key grou
 
 -- the lines of a group of two or more, of which one is kept, stand at its least key
 abbrev pub group_lines : (Key → Bool) → State → Key → List Key → List CsvLine
-group_lines keep s key (least ∷ other ∷ keys) =
-    if same_key key least && list_any keep (least ∷ other ∷ keys)
-    then filter_map (member_line s (least ∷ other ∷ keys)) (least ∷ other ∷ keys) else []
-group_lines keep s key _ = []
+group_lines keep s key keys = if is_least_of key keys && list_any keep keys then filter_map (member_line s keys) keys else []
 
 -- the lines that stand at a row, of those that share its authority's heading
 abbrev pub shared_at : (Key → Bool) → State → Row → List CsvLine

@@ -8,13 +8,10 @@ ghost use Rattle.heading_worklist.specs.Lines.{authority_cells, other_keys};
 
 use crate::authorities::AuthorityHeading;
 use crate::cells::Cells;
+use crate::filling::{fill_candidates, fill_heading, fill_record, no_cells};
 use crate::links::{LinkCounts, linked_times};
-use crate::makers::{
-    heading_cell, key_cell, keys_cell, name_under_cell, names_cell, number_cell, tag_cell,
-    word_cell,
-};
+use crate::makers::{name_under_cell, number_cell};
 use crate::order::is_kept;
-use crate::texts::kind_word;
 use catalogue_core::Engine;
 use marc_types::{Class, Key, NoMemory};
 use std::alloc::Global;
@@ -69,22 +66,19 @@ pub(crate) fn authority_cells<'a>(
     requires { AreLinks engine.now.state links.now }
     ensures { IfOk result (λ cells. cells ≡ authority_cells engine.now.state state.now (shown_keys others.now) key.now heading.now) }
 {
-    Ok(Cells {
-        state: word_cell(alloc, state)?,
-        kind: word_cell(alloc, kind_word(heading.kind).as_bytes())?,
-        heading: heading_cell(alloc, &heading.field, heading.kind, Class::Authority)?,
-        count: number_cell(alloc, linked_times(links, key))?,
-        base_count: Vec::new(alloc),
-        record_key: key_cell(alloc, key)?,
-        library: word_cell(alloc, key.code.as_bytes())?,
-        title: name_under_cell(alloc, engine, key)?,
-        tag: tag_cell(alloc, heading.field.tag())?,
-        field: Vec::new(alloc),
-        identifiers: Vec::new(alloc),
-        awaits: Vec::new(alloc),
-        candidate_count: number_cell(alloc, others.len() as u64)?,
-        candidates: keys_cell(alloc, others)?,
-        candidate_headings: names_cell(alloc, engine, others)?,
-        why: Vec::new(alloc),
-    })
+    let mut cells = no_cells(alloc);
+    let kind = heading.kind;
+    fill_heading(
+        alloc,
+        &mut cells,
+        state,
+        &heading.field,
+        kind,
+        Class::Authority,
+    )?;
+    fill_record(alloc, &mut cells, key)?;
+    fill_candidates(alloc, &mut cells, engine, others)?;
+    cells.count = number_cell(alloc, linked_times(links, key))?;
+    cells.title = name_under_cell(alloc, engine, key)?;
+    Ok(cells)
 }

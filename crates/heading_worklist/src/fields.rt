@@ -1,13 +1,11 @@
 //! Open headings, with all that their lines show.
-ghost use Rattle.std.specs.Prelude.{◌≡◌, option_and_then, IfOk};
+ghost use Rattle.std.specs.Prelude.{◌≡◌, IfOk};
 ghost use Rattle.std.specs.Option.{option_copied};
 ghost use Rattle.catalogue_rules.specs.State.{linkable_authorities};
 ghost use Rattle.catalogue_rules.specs.Choice.{asks_base};
-ghost use Rattle.catalogue_rules.specs.Receipt.{standing_of};
-ghost use Rattle.catalogue_rules.specs.Store.{field_at};
 ghost use Rattle.numbered_store.specs.Kept.{kept_record};
-ghost use Rattle.heading_worklist.specs.Found.{candidates_shown, open_at_field};
-ghost use Rattle.heading_worklist.specs.Headings.{candidates_by, is_ambiguous};
+ghost use Rattle.heading_worklist.specs.Found.{candidates_at, candidates_shown, open_at_field};
+ghost use Rattle.heading_worklist.specs.Headings.{is_ambiguous};
 
 use crate::forms::{HeadingForms, forms_of};
 use catalogue_core::{Engine, Standing};
@@ -68,8 +66,7 @@ fn candidates_at(
     kept: &StoredRecord,
     place: u32,
 ) -> Result<Option<Keys>, NoMemory>
-    ensures { IfOk result (λ keys. keys
-        ≡ option_and_then (λ h. candidates_by (standing_of (linkable_authorities engine.now.state) class h)) (field_at place (kept_record kept.now))) }
+    ensures { IfOk result (λ keys. keys ≡ candidates_at engine.now.state class (kept_record kept.now) place) }
 {
     match engine.standing_at(alloc, class, kept, place)? {
         Some(standing) => Ok(candidates_of(alloc, standing)),

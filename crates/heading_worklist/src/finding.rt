@@ -1,10 +1,9 @@
 //! The open headings of records, one after the other.
-ghost use Rattle.std.specs.Prelude.{◌≡◌, ◌++◌, map, option_and_then, option_map, option_to_list, IfOk, OnOk};
-ghost use Rattle.std.specs.List.{flat_map};
-ghost use Rattle.catalogue_rules.specs.State.{linkable_authorities, rows_of};
+ghost use Rattle.std.specs.Prelude.{◌≡◌, ◌++◌, map, option_and_then, option_to_list, IfOk, OnOk};
+ghost use Rattle.catalogue_rules.specs.State.{rows_of};
 ghost use Rattle.numbered_store.specs.Kept.{kept_record, shown_row};
-ghost use Rattle.heading_worklist.specs.Headings.{compared, open_headings, open_in_class, open_in_row};
-ghost use Rattle.heading_worklist.specs.Found.{open_at_field, open_state};
+ghost use Rattle.heading_worklist.specs.Headings.{compared, open_headings, open_in_class};
+ghost use Rattle.heading_worklist.specs.Found.{compared_at, compared_in, open_state};
 
 use crate::compared::Compared;
 use crate::forms::forms_of;
@@ -36,8 +35,7 @@ fn open_at<'a>(
     kept: &StoredRecord,
     place: u32,
 ) -> Result<Option<Compared<'a>>, NoMemory>
-    ensures { IfOk result (λ found. found
-        ≡ option_map compared (open_at_field (linkable_authorities engine.now.state) class (key.now, kept_record kept.now) place)) }
+    ensures { IfOk result (λ found. found ≡ compared_at engine.now.state class (key.now, kept_record kept.now) place) }
 {
     let Some(ambiguous) = open_state(engine.standing_at(alloc, class, kept, place)?) else {
         return Ok(None);
@@ -72,7 +70,7 @@ fn push_open<'a>(
     place: u32,
 ) -> Result<(), NoMemory>
     ensures { OnOk result (found.new.items ≡ found.old.items
-        ++ option_to_list (option_map compared (open_at_field (linkable_authorities engine.now.state) class (key.now, kept_record kept.now) place))) }
+        ++ option_to_list (compared_at engine.now.state class (key.now, kept_record kept.now) place)) }
 {
     match open_at(known, alloc, engine, class, key, kept, place)? {
         Some(heading) => {
@@ -94,7 +92,7 @@ fn push_row<'a>(
     kept: &StoredRecord,
 ) -> Result<(), NoMemory>
     ensures { OnOk result (found.new.items ≡ found.old.items
-        ++ map compared (open_in_row (linkable_authorities engine.now.state) class (key.now, kept_record kept.now))) }
+        ++ compared_in engine.now.state class (key.now, kept_record kept.now)) }
 {
     for place in 0..kept.field_count() {
         push_open(found, known, alloc, engine, class, key, kept, place)?;

@@ -1,18 +1,16 @@
 //! The cells of open headings.
-ghost use Rattle.std.specs.Prelude.{◌≡◌, IfOk};
+ghost use Rattle.std.specs.Prelude.{◌≡◌, Some, IfOk, OnOk};
 ghost use Rattle.catalogue_tables.specs.Sharing.{shown_keys};
+ghost use Rattle.heading_worklist.specs.Filling.{with_candidates};
 ghost use Rattle.heading_worklist.specs.Lines.{heading_cells, state_word};
 ghost use Rattle.heading_worklist.specs.Worklist.{counted_cells};
 
 use crate::cells::Cells;
 use crate::counted::Counted;
 use crate::fields::{OpenField, open_field_at};
-use crate::makers::{
-    awaited_cell, heading_cell, identifiers_cell, key_cell, keys_cell, name_cell, names_cell,
-    number_cell, reason_cell, tag_cell, word_cell,
+use crate::filling::{
+    fill_candidates, fill_counts, fill_heading, fill_place, fill_reason, fill_record, no_cells,
 };
-use crate::reasons::reason_of;
-use crate::texts::kind_word;
 use catalogue_core::Engine;
 use marc_types::{Key, NoMemory};
 use std::alloc::Global;
@@ -34,6 +32,19 @@ fn lent(alloc: Global, keys: &[Key]) -> Result<Vec<&Key>, NoMemory>
     Ok(found)
 }
 
+/// The authorities that an open heading could be linked to.
+fn fill_open(
+    alloc: Global,
+    cells: &mut Cells,
+    engine: &Engine,
+    heading: &OpenField<'_>,
+) -> Result<(), NoMemory>
+    ensures { OnOk result (cells.new ≡ with_candidates engine.now.state heading.now.candidates cells.old) }
+{
+    let candidates = lent(alloc, heading.candidates.as_slice())?;
+    fill_candidates(alloc, cells, engine, &candidates)
+}
+
 /// The cells of an open heading whose full form and base form stand so often.
 pub(crate) fn heading_cells(
     alloc: Global,
@@ -44,28 +55,36 @@ pub(crate) fn heading_cells(
 ) -> Result<Cells, NoMemory>
     ensures { IfOk result (λ cells. cells ≡ heading_cells engine.now.state heading.now count base_count) }
 {
-    let field = heading.field();
+    let mut cells = no_cells(alloc);
+    let state = state_word(heading.is_ambiguous());
     let kind = heading.forms.kind;
-    let candidates = lent(alloc, heading.candidates.as_slice())?;
-    let reason = reason_of(alloc, engine, heading)?;
-    Ok(Cells {
-        state: word_cell(alloc, state_word(heading.is_ambiguous()))?,
-        kind: word_cell(alloc, kind_word(kind).as_bytes())?,
-        heading: heading_cell(alloc, field, kind, heading.class)?,
-        count: number_cell(alloc, count as u64)?,
-        base_count: number_cell(alloc, base_count as u64)?,
-        record_key: key_cell(alloc, heading.key)?,
-        library: word_cell(alloc, heading.key.code.as_bytes())?,
-        title: name_cell(alloc, heading.class, heading.kept)?,
-        tag: tag_cell(alloc, field.tag())?,
-        field: number_cell(alloc, heading.number as u64)?,
-        identifiers: identifiers_cell(alloc, field)?,
-        awaits: awaited_cell(alloc, heading.awaits())?,
-        candidate_count: number_cell(alloc, candidates.len() as u64)?,
-        candidates: keys_cell(alloc, &candidates)?,
-        candidate_headings: names_cell(alloc, engine, &candidates)?,
-        why: reason_cell(alloc, reason)?,
-    })
+    fill_heading(
+        alloc,
+        &mut cells,
+        state,
+        heading.field(),
+        kind,
+        heading.class,
+    )?;
+    fill_counts(alloc, &mut cells, count, base_count)?;
+    fill_record(alloc, &mut cells, heading.key)?;
+    fill_place(alloc, &mut cells, heading)?;
+    fill_open(alloc, &mut cells, engine, heading)?;
+    fill_reason(alloc, &mut cells, engine, heading)?;
+    Ok(cells)
+}
+
+// The same of one that is there.
+fn some_cells(
+    alloc: Global,
+    engine: &Engine,
+    heading: &OpenField<'_>,
+    counted: &Counted<'_>,
+) -> Result<Option<Cells>, NoMemory>
+    ensures { IfOk result (λ cells. cells ≡ Some (heading_cells engine.now.state heading.now counted.now.count counted.now.base_count)) }
+{
+    let cells = heading_cells(alloc, engine, heading, counted.count, counted.base_count)?;
+    Ok(Some(cells))
 }
 
 /// The cells of the open heading at the place that was counted, with its counts; none where no open heading is there.
@@ -80,17 +99,9 @@ pub fn counted_cells(
     let Some(kept) = engine.look(heading.class, heading.key) else {
         return Ok(None);
     };
-    let found = open_field_at(
-        alloc,
-        engine,
-        heading.class,
-        heading.key,
-        kept,
-        heading.field,
-    )?;
-    let Some(field) = found else {
-        return Ok(None);
-    };
-    let cells = heading_cells(alloc, engine, &field, counted.count, counted.base_count)?;
-    Ok(Some(cells))
+    let (class, key) = (heading.class, heading.key);
+    match open_field_at(alloc, engine, class, key, kept, heading.field)? {
+        Some(field) => some_cells(alloc, engine, &field, counted),
+        None => Ok(None),
+    }
 }

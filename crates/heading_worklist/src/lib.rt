@@ -16,6 +16,7 @@ mod compared;
 mod counted;
 mod counts;
 mod fields;
+mod filling;
 mod finding;
 mod forms;
 mod heading_lines;

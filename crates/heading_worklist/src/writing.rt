@@ -1,16 +1,17 @@
 //! The lines of a worklist, written one by one.
 ghost use Rattle.std.specs.Prelude.{◌≡◌, map, option_to_list, IfOk, OnOk};
-ghost use Rattle.std.specs.List.{filter_map, flat_map};
-ghost use Rattle.std.specs.Option.{option_copied, option_map};
+ghost use Rattle.std.specs.List.{flat_map};
+ghost use Rattle.std.specs.Option.{option_map};
 ghost use Rattle.std.specs.Io.KnownBytes.{Appends};
 ghost use Rattle.outside.specs.Fault.{HasWriteCause};
 ghost use Rattle.outside.specs.Sink.{WritesFront};
 ghost use Rattle.catalogue_tables.specs.Sharing.{shown_keys};
 ghost use Rattle.numbered_store.specs.Kept.{shown_row};
-ghost use Rattle.heading_worklist.specs.Csv.{line_bytes, list_bytes};
-ghost use Rattle.heading_worklist.specs.Counting.{AreLinks, kept_in};
-ghost use Rattle.heading_worklist.specs.Lines.{authority_line, crossing_among, crossing_line, crossing_lines, group_lines, lines_across, line_of_cells, member_line, shared_lines};
-ghost use Rattle.heading_worklist.specs.Worklist.{counted_lines, kept_line, lines_behind};
+ghost use Rattle.heading_worklist.specs.Csv.{line_bytes};
+ghost use Rattle.heading_worklist.specs.Counting.{AreLinks};
+ghost use Rattle.heading_worklist.specs.Lines.{authority_line, line_of_cells, member_line};
+ghost use Rattle.heading_worklist.specs.Worklist.{kept_line};
+ghost use Rattle.heading_worklist.specs.Written.{across_bytes, counted_bytes, crossing_bytes, crossings_bytes, group_bytes, kept_by, members_bytes, others_bytes, shared_bytes, worklist_bytes};
 
 use crate::authorities::heading_under;
 use crate::authority_lines::{any_kept, authority_cells, is_kept_among, other_keys};
@@ -20,7 +21,7 @@ use crate::heading_lines::counted_cells;
 use crate::links::{LinkCounts, links_of};
 use crate::order::is_kept;
 use crate::quoting::MARK;
-use catalogue_core::Engine;
+use catalogue_core::{Engine, is_least_of};
 use marc_types::{Class, Key, NoMemory};
 use numbered_store::RowMap;
 use outside::{Sink, WriteFault};
@@ -74,7 +75,7 @@ impl<'a> Lister<'a> {
     /// The cells of an open heading that was counted, where the key of its record is kept.
     fn kept(&self, counted: &Counted<'_>) -> Result<Option<Cells>, NoMemory>
         ensures { IfOk result (λ cells. option_map line_of_cells cells
-            ≡ kept_line (kept_in (option_copied self.now.code)) self.now.engine.now.state counted.now) }
+            ≡ kept_line (kept_by self.now.code) self.now.engine.now.state counted.now) }
     {
         let heading = counted.heading;
         if is_kept(heading.key, self.code) {
@@ -92,10 +93,9 @@ impl<'a> Lister<'a> {
         text: &mut Vec<u8>,
         out: &mut K,
     ) -> Result<(), WriteFault>
-        ensures bytes { OnOk result
-            (Appends (K.written out.old) (K.written out.new) (flat_map line_bytes (counted_lines (kept_in (option_copied self.now.code)) self.now.engine.now.state lines.now.keys))) }
-        ensures front { WritesFront (K.written out.old) (K.written out.new)
-            (flat_map line_bytes (counted_lines (kept_in (option_copied self.now.code)) self.now.engine.now.state lines.now.keys)) }
+        ensures bytes { OnOk result (Appends (K.written out.old) (K.written out.new)
+            (counted_bytes self.now.code self.now.engine.now.state lines.now.keys)) }
+        ensures front { WritesFront (K.written out.old) (K.written out.new) (counted_bytes self.now.code self.now.engine.now.state lines.now.keys) }
         ensures cause { HasWriteCause (K.faults out.old) (K.faults out.new) result }
     {
         for counted in lines.iter() {
@@ -151,9 +151,8 @@ impl<'a> Lister<'a> {
         out: &mut K,
     ) -> Result<(), WriteFault>
         ensures bytes { OnOk result (Appends (K.written out.old) (K.written out.new)
-            (flat_map line_bytes (filter_map (member_line self.now.engine.now.state (shown_keys group.now)) (shown_keys group.now)))) }
-        ensures front { WritesFront (K.written out.old) (K.written out.new)
-            (flat_map line_bytes (filter_map (member_line self.now.engine.now.state (shown_keys group.now)) (shown_keys group.now))) }
+            (members_bytes self.now.engine.now.state (shown_keys group.now))) }
+        ensures front { WritesFront (K.written out.old) (K.written out.new) (members_bytes self.now.engine.now.state (shown_keys group.now)) }
         ensures cause { HasWriteCause (K.faults out.old) (K.faults out.new) result }
     {
         for key in group {
@@ -175,16 +174,12 @@ impl<'a> Lister<'a> {
         out: &mut K,
     ) -> Result<(), WriteFault>
         ensures bytes { OnOk result (Appends (K.written out.old) (K.written out.new)
-            (flat_map line_bytes (group_lines (kept_in (option_copied self.now.code)) self.now.engine.now.state own.now (shown_keys group.now)))) }
+            (group_bytes self.now.code self.now.engine.now.state own.now (shown_keys group.now))) }
         ensures front { WritesFront (K.written out.old) (K.written out.new)
-            (flat_map line_bytes (group_lines (kept_in (option_copied self.now.code)) self.now.engine.now.state own.now (shown_keys group.now))) }
+            (group_bytes self.now.code self.now.engine.now.state own.now (shown_keys group.now)) }
         ensures cause { HasWriteCause (K.faults out.old) (K.faults out.new) result }
     {
-        let [least, _other, ..] = group else {
-            return Ok(());
-        };
-        let least: &Key = least;
-        if own == least && any_kept(group, self.code) {
+        if is_least_of(own, group) && any_kept(group, self.code) {
             self.write_members(group, text, out)?;
         }
         Ok(())
@@ -200,9 +195,9 @@ impl<'a> Lister<'a> {
         out: &mut K,
     ) -> Result<(), WriteFault>
         ensures bytes { OnOk result (Appends (K.written out.old) (K.written out.new)
-            (flat_map line_bytes (filter_map (crossing_line self.now.engine.now.state (shown_keys own.now)) (shown_keys others.now)))) }
+            (others_bytes self.now.engine.now.state (shown_keys own.now) (shown_keys others.now))) }
         ensures front { WritesFront (K.written out.old) (K.written out.new)
-            (flat_map line_bytes (filter_map (crossing_line self.now.engine.now.state (shown_keys own.now)) (shown_keys others.now))) }
+            (others_bytes self.now.engine.now.state (shown_keys own.now) (shown_keys others.now)) }
         ensures cause { HasWriteCause (K.faults out.old) (K.faults out.new) result }
     {
         for key in others {
@@ -224,9 +219,8 @@ impl<'a> Lister<'a> {
         out: &mut K,
     ) -> Result<(), WriteFault>
         ensures bytes { OnOk result (Appends (K.written out.old) (K.written out.new)
-            (flat_map line_bytes (lines_across self.now.engine.now.state own.now (shown_keys others.now)))) }
-        ensures front { WritesFront (K.written out.old) (K.written out.new)
-            (flat_map line_bytes (lines_across self.now.engine.now.state own.now (shown_keys others.now))) }
+            (across_bytes self.now.engine.now.state own.now (shown_keys others.now))) }
+        ensures front { WritesFront (K.written out.old) (K.written out.new) (across_bytes self.now.engine.now.state own.now (shown_keys others.now)) }
         ensures cause { HasWriteCause (K.faults out.old) (K.faults out.new) result }
     {
         let Ok(cells) = self.authority(b"crossing", others, own) else {
@@ -246,9 +240,9 @@ impl<'a> Lister<'a> {
         out: &mut K,
     ) -> Result<(), WriteFault>
         ensures bytes { OnOk result (Appends (K.written out.old) (K.written out.new)
-            (flat_map line_bytes (crossing_among (kept_in (option_copied self.now.code)) self.now.engine.now.state own.now (shown_keys others.now)))) }
+            (crossing_bytes self.now.code self.now.engine.now.state own.now (shown_keys others.now))) }
         ensures front { WritesFront (K.written out.old) (K.written out.new)
-            (flat_map line_bytes (crossing_among (kept_in (option_copied self.now.code)) self.now.engine.now.state own.now (shown_keys others.now))) }
+            (crossing_bytes self.now.code self.now.engine.now.state own.now (shown_keys others.now)) }
         ensures cause { HasWriteCause (K.faults out.old) (K.faults out.new) result }
     {
         let [_first, ..] = others else {
@@ -269,10 +263,8 @@ impl<'a> Lister<'a> {
         out: &mut K,
     ) -> Result<(), WriteFault>
         requires { map shown_row authorities.now.entries ≡ self.now.engine.now.state.authorities }
-        ensures bytes { OnOk result (Appends (K.written out.old) (K.written out.new)
-            (flat_map line_bytes (shared_lines (kept_in (option_copied self.now.code)) self.now.engine.now.state))) }
-        ensures front { WritesFront (K.written out.old) (K.written out.new)
-            (flat_map line_bytes (shared_lines (kept_in (option_copied self.now.code)) self.now.engine.now.state)) }
+        ensures bytes { OnOk result (Appends (K.written out.old) (K.written out.new) (shared_bytes self.now.code self.now.engine.now.state)) }
+        ensures front { WritesFront (K.written out.old) (K.written out.new) (shared_bytes self.now.code self.now.engine.now.state) }
         ensures cause { HasWriteCause (K.faults out.old) (K.faults out.new) result }
     {
         for (key, _kept) in authorities {
@@ -293,10 +285,8 @@ impl<'a> Lister<'a> {
         out: &mut K,
     ) -> Result<(), WriteFault>
         requires { map shown_row authorities.now.entries ≡ self.now.engine.now.state.authorities }
-        ensures bytes { OnOk result (Appends (K.written out.old) (K.written out.new)
-            (flat_map line_bytes (crossing_lines (kept_in (option_copied self.now.code)) self.now.engine.now.state))) }
-        ensures front { WritesFront (K.written out.old) (K.written out.new)
-            (flat_map line_bytes (crossing_lines (kept_in (option_copied self.now.code)) self.now.engine.now.state)) }
+        ensures bytes { OnOk result (Appends (K.written out.old) (K.written out.new) (crossings_bytes self.now.code self.now.engine.now.state)) }
+        ensures front { WritesFront (K.written out.old) (K.written out.new) (crossings_bytes self.now.code self.now.engine.now.state) }
         ensures cause { HasWriteCause (K.faults out.old) (K.faults out.new) result }
     {
         for (key, _kept) in authorities {
@@ -317,9 +307,8 @@ impl<'a> Lister<'a> {
     ) -> Result<(), WriteFault>
         requires { map shown_row authorities.now.entries ≡ self.now.engine.now.state.authorities }
         ensures bytes { OnOk result (Appends (K.written out.old) (K.written out.new)
-            (list_bytes (lines_behind (kept_in (option_copied self.now.code)) self.now.engine.now.state lines.now.keys))) }
-        ensures front { WritesFront (K.written out.old) (K.written out.new)
-            (list_bytes (lines_behind (kept_in (option_copied self.now.code)) self.now.engine.now.state lines.now.keys)) }
+            (worklist_bytes self.now.code self.now.engine.now.state lines.now.keys)) }
+        ensures front { WritesFront (K.written out.old) (K.written out.new) (worklist_bytes self.now.code self.now.engine.now.state lines.now.keys) }
         ensures cause { HasWriteCause (K.faults out.old) (K.faults out.new) result }
     {
         let mut text = Vec::new(self.alloc);
@@ -341,10 +330,8 @@ pub fn write_worklist<'a, K: Sink>(
     code: Option<&'a str>,
     out: &mut K,
 ) -> Result<(), WriteFault>
-    ensures bytes { OnOk result (Appends (K.written out.old) (K.written out.new)
-        (list_bytes (lines_behind (kept_in (option_copied code.entry)) engine.now.state lines.now.keys))) }
-    ensures front { WritesFront (K.written out.old) (K.written out.new)
-        (list_bytes (lines_behind (kept_in (option_copied code.entry)) engine.now.state lines.now.keys)) }
+    ensures bytes { OnOk result (Appends (K.written out.old) (K.written out.new) (worklist_bytes code.entry engine.now.state lines.now.keys)) }
+    ensures front { WritesFront (K.written out.old) (K.written out.new) (worklist_bytes code.entry engine.now.state lines.now.keys) }
     ensures cause { HasWriteCause (K.faults out.old) (K.faults out.new) result }
 {
     let Ok(lister) = Lister::new(alloc, engine, code) else {

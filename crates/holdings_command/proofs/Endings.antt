@@ -14,7 +14,7 @@ use Rattle.durable_catalogue.specs.declared.fault.OpenFault.{OpenFault}
 use Rattle.durable_catalogue.specs.declared.fault.OpenFault.TheVariants as opening
 use Rattle.console_lines.specs.Ends.{Outcome, IsTold, TellsNoFault, IsSilent, IsResultTold, out_unwritten, pages_unwritten}
 use Rattle.console_lines.specs.declared.end.End.{End}
-use Rattle.console_lines.specs.declared.end.End.TheVariants.{Done, Refused, Unwritten as NotWritten, Told}
+use Rattle.console_lines.specs.declared.end.End.TheVariants.{Done, Refused, Unwritten as NotWritten, Told, BroughtInPart, Differ}
 use Rattle.console_lines.specs.declared.end.Unwritten.{Unwritten}
 use Rattle.console_lines.specs.declared.end.Unwritten.TheVariants.{Out, Side, Pages, Console}
 use Rattle.console_lines.specs.declared.end.OutputsFault.{OutputsFault}
@@ -63,6 +63,8 @@ ends_delivered (NotWritten Side) untold no_pages = tt
 ends_delivered (NotWritten Pages) untold no_pages = absurd (no_pages refl)
 ends_delivered (NotWritten Console) untold no_pages = tt
 ends_delivered (Told why) untold no_pages = absurd untold
+ends_delivered BroughtInPart untold no_pages = absurd untold
+ends_delivered Differ untold no_pages = absurd untold
 
 module _ (journal out rest : List ℕ) (library : Library) (code : Option (List ℕ)) (o : Outcome) where
   -- the journal was not opened

@@ -12,7 +12,7 @@ use Rattle.catalogue_rules.specs.Settle.{state_of}
 use Rattle.durable_catalogue.specs.Logs.{HasHistory}
 use Rattle.console_lines.specs.Ends.{Outcome, IsTold, TellsNoFault, IsSilent, end_of, out_unwritten, side_unwritten, console_unwritten}
 use Rattle.console_lines.specs.declared.end.End.{End}
-use Rattle.console_lines.specs.declared.end.End.TheVariants.{Done, Refused, Unwritten, Told}
+use Rattle.console_lines.specs.declared.end.End.TheVariants.{Done, Refused, Unwritten, Told, BroughtInPart, Differ}
 use Rattle.console_lines.specs.declared.end.Unwritten.TheVariants.{Out, Side, Pages, Console}
 use Rattle.console_lines.specs.declared.fault.Fault.{Fault}
 use Rattle.console_lines.specs.declared.fault.Fault.TheVariants.{Usage, Input, Device, NotAJournal, Full, Memory, OldVersion, OtherHistory}
@@ -47,6 +47,8 @@ EndsAttaching (Told Full) = Unit {0}
 EndsAttaching (Told Memory) = Unit {0}
 EndsAttaching (Told OldVersion) = ⊥
 EndsAttaching (Told OtherHistory) = ⊥
+EndsAttaching BroughtInPart = ⊥
+EndsAttaching Differ = ⊥
 
 -- the ends behind the opening of the journal: without a fault to tell, or with one of the file
 abbrev pub IsBehindOpening : End → Type 0

@@ -13,7 +13,6 @@ pub use scan::JournalScan;
 mod archive;
 mod entries;
 mod fault;
-mod frames;
 mod history;
 mod journal;
 mod refused;

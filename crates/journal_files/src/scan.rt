@@ -7,9 +7,8 @@ ghost use Rattle.durable_catalogue.specs.Opened.{IsOpenedDisk, IsRefusedDisk};
 ghost use Rattle.journal_files.specs.Journals.{IsHistoryOn};
 ghost use Rattle.journal_files.specs.Taking.{IsHandedOn};
 
-use crate::frames::take_within;
 use commit_journal::{Journal, Version};
-use durable_catalogue::{EntryTaker, OpenFault, find_log, refuse_log, take_log};
+use durable_catalogue::{EntryTaker, OpenFault, begin_log, find_entries, refuse_log, take_log};
 use marc_types::Limits;
 use outside::Disk;
 use std::alloc::Global;
@@ -38,14 +37,14 @@ impl<D: Disk> JournalScan<D> {
         ensures refused { IfErr result (λ e. IsRefusedDisk limits (D.seen disk) (D.seen e.0) e.1) }
         ensures current { IfErr result (λ e. e.1 ≢ OldVersion) }
     {
-        let (found, frames) = find_log(alloc, disk)?;
-        match take_within(alloc, found.version(), frames.into_vec(), limits, taker) {
-            Ok(()) => {
-                let journal = take_log(found)?;
-                Ok(JournalScan { journal })
-            }
-            Err(fault) => Err(refuse_log(found, fault)),
+        let begun = begin_log(alloc, disk)?;
+        let (found, reading) = find_entries(alloc, begun, limits, taker)?;
+        let fits = reading.fits;
+        if !fits {
+            return Err(refuse_log(found, OpenFault::Full));
         }
+        let journal = take_log(found)?;
+        Ok(JournalScan { journal })
     }
 
     /// The version of the log, the newest where it was blank.

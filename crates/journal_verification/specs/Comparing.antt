@@ -5,7 +5,7 @@ use Rattle.outside.specs.Fault.{Rose}
 use Rattle.outside.specs.Sink.{WritesFront}
 use Rattle.console_lines.specs.Ends.{Outcome, IsTold, TellsNoFault, console_unwritten}
 use Rattle.console_lines.specs.declared.end.End.{End}
-use Rattle.console_lines.specs.declared.end.End.TheVariants.{Done, Refused, Unwritten, Told}
+use Rattle.console_lines.specs.declared.end.End.TheVariants.{Done, Refused, Unwritten, Told, BroughtInPart, Differ}
 use Rattle.console_lines.specs.declared.end.Unwritten.TheVariants.{Out, Side, Pages, Console}
 use Rattle.console_lines.specs.declared.fault.Fault.{Fault}
 use Rattle.console_lines.specs.declared.fault.Fault.TheVariants.{Usage, Input, Device, NotAJournal, Full, Memory, OldVersion, OtherHistory}
@@ -30,6 +30,8 @@ EndsVerifyingDigest (Told Full) = ⊥
 EndsVerifyingDigest (Told Memory) = Unit {0}
 EndsVerifyingDigest (Told OldVersion) = ⊥
 EndsVerifyingDigest (Told OtherHistory) = Unit {0}
+EndsVerifyingDigest BroughtInPart = ⊥
+EndsVerifyingDigest Differ = ⊥
 
 -- The file is a journal, and the digest is that of its first so many entries: the console was told so, or a front of that where it could not
 -- be written.

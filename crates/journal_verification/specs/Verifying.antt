@@ -6,7 +6,7 @@ use Rattle.outside.specs.Fault.{Rose}
 use Rattle.outside.specs.Sink.{WritesFront}
 use Rattle.console_lines.specs.Ends.{Outcome, IsTold, console_unwritten}
 use Rattle.console_lines.specs.declared.end.End.{End}
-use Rattle.console_lines.specs.declared.end.End.TheVariants.{Done, Refused, Unwritten, Told}
+use Rattle.console_lines.specs.declared.end.End.TheVariants.{Done, Refused, Unwritten, Told, BroughtInPart, Differ}
 use Rattle.console_lines.specs.declared.end.Unwritten.TheVariants.{Out, Side, Pages, Console}
 use Rattle.console_lines.specs.declared.fault.Fault.{Fault}
 use Rattle.console_lines.specs.declared.fault.Fault.TheVariants.{Usage, Input, Device, NotAJournal, Full, Memory, OldVersion, OtherHistory}
@@ -54,6 +54,8 @@ EndsVerifying (Told Full) = ⊥
 EndsVerifying (Told Memory) = Unit {0}
 EndsVerifying (Told OldVersion) = ⊥
 EndsVerifying (Told OtherHistory) = ⊥
+EndsVerifying BroughtInPart = ⊥
+EndsVerifying Differ = ⊥
 
 -- the file is a journal, and the console was told what it has
 pub record IsToldWhole (log : List ℕ) (told now : Option (List ℕ)) : Type 0 where

@@ -1,3 +1,4 @@
+pub mod Ascending
 pub mod Rows
 pub mod Standing
 pub mod Tests

@@ -1,12 +1,13 @@
 //! Laws of states that are handed over as rows: each is the contract of a function that does nothing.
-ghost use Rattle.std.specs.Prelude.{◌≡◌, ◌↔◌, ◌++◌, true, List, map, All};
+ghost use Rattle.std.specs.Prelude.{◌≡◌, ◌↔◌, ◌++◌, true, List};
 ghost use Rattle.marc_types.specs.declared.key.Class.{Class};
 ghost use Rattle.marc_types.specs.declared.key.Class.TheVariants.{Authority, Bibliographic};
 ghost use Rattle.catalogue_rules.specs.State.{State};
 ghost use Rattle.catalogue_rules.specs.Valid.{IsAscending};
 ghost use Rattle.kept_rows.specs.declared.row.KeptRow.{KeptRow};
-ghost use Rattle.kept_rows.specs.Rows.{row_of, is_of, rows_in, are_in_order};
+ghost use Rattle.kept_rows.specs.Rows.{are_in_order, rows_in};
 ghost use Rattle.kept_rows.specs.Standing.{IsStanding, IsSound};
+ghost use Rattle.kept_rows.specs.Ascending.{AscendIn};
 
 /// A catalogue can begin with a state exactly where its rows are in order, each is sound alone, and each field rests among the
 /// authorities. That the headings of authorities are short needs no look: an authority that fields are linked to is short in full.
@@ -22,9 +23,7 @@ pub fn rows_in_order_ascend()
 {}
 
 /// Authorities whose keys ascend, and publications whose keys ascend behind them, are rows in order.
-#[tactic(auto, using(crate::proofs::Classes::ascending_ordered))]
 pub fn ascending_rows_are_in_order()
-    ensures { (authorities publications : List KeptRow) → All (λ r. is_of Authority r ≡ true) authorities
-        → All (λ r. is_of Bibliographic r ≡ true) publications → IsAscending (map row_of authorities) → IsAscending (map row_of publications)
-        → are_in_order (authorities ++ publications) ≡ true }
+    ensures { (former latter : List KeptRow) → AscendIn Authority former → AscendIn Bibliographic latter
+        → are_in_order (former ++ latter) ≡ true }
 {}

@@ -102,22 +102,16 @@ impl LinkTable {
     pub fn of(&self, alloc: Global, number: u32) -> Result<Seats, NoMemory>
         ensures { IfOk result (λ seats. ListsEach same_seat (is_linked number (links self.now)) seats.items) }
     {
-        let counted = self.names.things(alloc, number)?;
-        let seats = self.linked_among(alloc, counted.as_slice(), number)?;
+        let mut seats = self.names.things(alloc, number)?;
+        self.keep_linked(&mut seats, number);
         Ok(seats)
     }
 
-    // Those of the seats that are linked to the authority.
-    fn linked_among(&self, alloc: Global, among: &[Seat], number: u32) -> Result<Seats, NoMemory>
-        ensures { IfOk result (λ seats. seats.items ≡ filter (is_linked number (links self.now)) among.now) }
+    // Of the seats those stay that are linked to the authority.
+    fn keep_linked(&self, seats: &mut Seats, number: u32)
+        ensures { seats.new.items ≡ filter (is_linked number (links self.now)) seats.old.items }
     {
-        let mut seats = Vec::with_capacity(alloc, among.len())?;
-        for seat in among {
-            if self.is_linked(*seat, number) {
-                seats.push(*seat)?;
-            }
-        }
-        Ok(seats)
+        seats.retain(|seat| self.is_linked(*seat, number));
     }
 
     // Whether the seat is linked to the authority.

@@ -1,5 +1,5 @@
 -- Keys that get numbers, and what a store without records is.
-use Rattle.std.proofs.Common.{◌≡◌, ◌∙◌, sym, ap, refl, subst, ℕ, ◌<◌, ◌≤◌, arith, Bool, true, false, List, [], length, map, Option, Some, None, IsSome, Result, Ok, Err, OnOk, OnErr, IfOk}
+use Rattle.std.proofs.Common.{◌≡◌, ◌∙◌, sym, ap, refl, subst, ℕ, ◌<◌, ◌≤◌, arith, Bool, true, false, List, [], length, map, Option, Some, None, IsSome, Result, Ok, Err, OnOk, OnErr}
 use Rattle.std.specs.Prelude.{find, slice_get}
 use Rattle.std.specs.List.{IsDistinct}
 use Rattle.std.specs.List.Sorted.{IsStrictlySortedBy}
@@ -9,7 +9,7 @@ use Rattle.marc_types.specs.declared.key.Class.TheVariants.{Authority, Bibliogra
 use Rattle.marc_types.specs.declared.key.Key.{Key}
 use Rattle.marc_types.specs.declared.key.Place.{Place}
 use Rattle.marc_types.specs.Order.{same_key, key_cmp_total}
-use Rattle.numbering.specs.Numbers.{IsNumberOf, is_known, number_of}
+use Rattle.numbering.specs.Numbers.{is_known, number_of}
 use Rattle.numbering.specs.declared.seat.Seat.{Seat}
 use Rattle.numbering.proofs.Numberlaws.{distinct_with, keeps_itself, keeps_with}
 use Rattle.catalogue_rules.specs.State.{KeptField, empty_state, rows_of}
@@ -197,16 +197,6 @@ view_unchanged f g marked grown sound = record {
   };
   state = grown.grows.numbered.state;
 }
-
--- the number is one by the lists of keys as well
-pub number_by_lists : {E : Type 0} (class : Class) (key : Key) (s : Numbered) (r : Result ℕ E) → IfOk r (IsNumberOf same_key (keys_by class s.keys) key)
-    → IfOk r (IsNumberOf same_key (keys_in class (key_lists s.keys)) key)
-number_by_lists class key s (Ok n) is = subst (λ (l : List Key). IsNumberOf same_key l key n) (sym (keys_alike class s)) is
-number_by_lists class key s (Err e) is = tt
-
-pub low_by_lists : {E : Type 0} (class : Class) (s : Numbered) (r : Result ℕ E) → IfOk r (λ n. n < length (keys_by class s.keys)) → IfOk r (λ n. IsNumber class n (key_lists s.keys))
-low_by_lists class s (Ok n) low = subst (λ (l : List Key). n < length l) (sym (keys_alike class s)) low
-low_by_lists class s (Err e) low = tt
 
 -- ---- authorities
 

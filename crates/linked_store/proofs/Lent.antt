@@ -4,36 +4,23 @@ use Rattle.std.specs.Borrow.{Bor}
 use Rattle.std.specs.Option.{option_copied, option_map}
 use Rattle.marc_types.specs.declared.field.Field.{Field}
 use Rattle.marc_types.specs.declared.form.Form.{Form}
-use Rattle.marc_types.specs.declared.form.Kind.{Kind}
 use Rattle.marc_types.specs.declared.key.Class.{Class}
 use Rattle.marc_types.specs.Fields.{subfields_of, tag_of}
 use Rattle.heading_fields.specs.Parts.{is_subdivided}
 use Rattle.heading_fields.specs.Tables.{is_subdividable}
-use Rattle.entry_record.specs.Authority.{base_form, full_form, heading_kind}
+use Rattle.entry_record.specs.Authority.{full_form, heading_kind}
 use Rattle.entry_record.specs.Prepared.{heading_base_form, heading_full_form}
 use Rattle.catalogue_rules.specs.State.{new_field}
 use Rattle.linked_store.specs.Lending.{LendsForms, both_or_base, forms_lent}
 use Rattle.linked_store.specs.declared.lending.LentForms.{LentForms}
 use Rattle.linked_store.specs.declared.wanted.Sought.{Sought}
-use Rattle.linked_store.proofs.Wanting.{asks_divided, asks_undivided, base_by, kind_by, wants_heading, wants_plain}
+use Rattle.linked_store.proofs.Wanting.{asks_divided, asks_undivided, base_by, kind_by, wants_heading}
 
 -- ---- fields that wait for nothing
 
 copied_none : {T : Type 0} (found : Option (Bor T)) (o : Option T) → option_copied found ≡ o → ((x : Bor T) → found ≡ Some x → ⊥) → None ≡ o
 copied_none None o is none = is
 copied_none (Some x) o is none = absurd (none x refl)
-
-no_base : (class : Class) (f : Field) (o : Option Kind) → None ≡ option_map (λ kind. full_form kind class f) o → None ≡ option_map (λ kind. base_form kind f) o
-no_base class f None e = refl
-no_base class f (Some kind) e = cc
-
-pub no_base_lent : (class : Class) (f : Field) (found : Option (Bor Form)) → option_copied found ≡ heading_base_form class f → ((x : Bor Form) → found ≡ Some x → ⊥)
-    → LendsForms class (new_field f) None
-no_base_lent class f found is none = wants_plain class (new_field f) (copied_none found (heading_base_form class f) is none)
-
-pub no_full_lent : (class : Class) (f : Field) (found : Option (Bor Form)) → option_copied found ≡ heading_full_form class f → ((x : Bor Form) → found ≡ Some x → ⊥)
-    → LendsForms class (new_field f) None
-no_full_lent class f found is none = wants_plain class (new_field f) (no_base class f (heading_kind class f) (copied_none found (heading_full_form class f) is none))
 
 -- ---- headings
 

@@ -21,7 +21,7 @@ use Rattle.catalogue_tables.specs.declared.tables.CatalogueTables.{CatalogueTabl
 use Rattle.form_index.specs.Index.{Indexed}
 use Rattle.linked_store.specs.Contents.{CanGoBack, Fits, HaveRooms, Step, ToIndex, ToLink, ToRecord, ToWait, apply, apply_back, at_seat, step_of}
 use Rattle.linked_store.specs.Rooms.{link_back, link_gone, link_out, wait_back, wait_gone, wait_out}
-use Rattle.linked_store.specs.Transactions.{GoesBack, GoesOn, IsRoomy, IsRowOut, KeepsRows, LetsGo, FormsKeep, SameForms, StaysButHeld, TakesBack, WaitsNow, contents, links_in, steps_of, waits_in}
+use Rattle.linked_store.specs.Transactions.{GoesOn, IsRoomy, IsRowOut, KeepsRows, LetsGo, FormsKeep, SameForms, StaysButHeld, TakesBack, WaitsNow, contents, links_in, steps_of, waits_in}
 use Rattle.linked_store.specs.declared.change.Change.{Change}
 use Rattle.linked_store.specs.declared.transaction.Transaction.{Transaction}
 use Rattle.linked_store.proofs.Outside.{link_none_out, wait_none_out}
@@ -259,17 +259,6 @@ module _ (position : ℕ) (start now popped : Transaction) (change : Change) (wa
         rooms = subst (λ l. HaveRooms l (links_in next.tables) (waits_in next.tables)) (sym left) (takes.rooms (steps_of popped) popped_rooms);
         same = record { forms = takes.same.forms ∙ ap (λ (t : CatalogueTables). t.forms) tables ∙ way.same.forms };
       }
-
-pub way_done : (position : ℕ) (start now : Transaction) → IsUnderWay position start now → length now.log.items ≤ position → GoesBack position start now
-way_done position start now way low =
-    let short : length (steps_of now) ≤ position = let e = steps_long now.log.items in omega (arith, e, low) in
-    record {
-      steps = sym (take_short position (steps_of now) short) ∙ way.front;
-      now = ap (λ l. apply_back l (contents now)) (sym (drop_short position (steps_of now) short)) ∙ way.back;
-      can = way.can;
-      rooms = way.rooms;
-      same = way.same;
-    }
 
 -- ---- keeping
 

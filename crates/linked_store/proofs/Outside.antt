@@ -1,18 +1,17 @@
 -- Rows of one seat that go out of the tables, and come back.
 use Rattle.std.proofs.Common.{◌≡◌, ◌∙◌, sym, ap, refl, subst, ℕ, ◌+◌, arith, Bool, true, false, cond, Option, Some, None, IfSome, IfNone}
-use Rattle.std.specs.Prelude.{◌-◌, nat_eq}
+use Rattle.std.specs.Prelude.{◌-◌}
 use Rattle.numbering.specs.Seats.{same_seat, seat_Decides}
 use Rattle.numbering.specs.declared.seat.Seat.{Seat}
-use Rattle.link_table.specs.Links.{Links, less_taken, row_of, with_key, with_row_taken}
+use Rattle.link_table.specs.Links.{Links, row_of, with_key}
 use Rattle.link_table.specs.declared.link.Link.{Link}
-use Rattle.postings.specs.Counts.{brought}
-use Rattle.wait_table.specs.Waits.{Waits, forms_of, less_taken as less_waiting, row_of as wait_row_of, with_row_taken as with_wait_taken, with_waiting}
+use Rattle.wait_table.specs.Waits.{Waits, row_of as wait_row_of, with_waiting}
 use Rattle.wait_table.specs.declared.waiting.Waiting.{Waiting}
 use Rattle.wait_table.specs.declared.waiting.WaitRow.{WaitRow}
 use Rattle.catalogue_tables.specs.Told.{TakesLink}
 use Rattle.catalogue_tables.specs.Waiting.{TakesWait}
 use Rattle.linked_store.specs.Contents.{at_seat}
-use Rattle.linked_store.specs.Rooms.{link_out, link_row, wait_out, wait_row}
+use Rattle.linked_store.specs.Rooms.{link_out, wait_out}
 
 -- nothing taken out of a seat that has nothing
 pub none_at : {V : Type 0} (seat : Seat) (things : Seat → Option V) → things seat ≡ None → (s : Seat) → things s ≡ at_seat seat None things s
@@ -49,26 +48,9 @@ pub took_link : (seat : Seat) (old new : Links) (row : Option Link) → row ≡ 
 took_link seat old new row is some none =
     took_by seat old new (old.key_of seat) refl (subst (λ r. IfSome r (λ link. TakesLink link old new)) is some) (subst (λ r. IfNone r (new ≡ old)) is none)
 
--- the link that was taken out has the number
-pub number_out : (seat : Seat) (number : Option ℕ) (link : Link) → Some link ≡ row_of seat number → Some link.number ≡ number
-number_out seat None link e = cc
-number_out seat (Some number) link e = let is : link ≡ link_row seat number = cc in ap (λ (l : Link). Some l.number) is
-
 pub nothing_out : (seat : Seat) (number : Option ℕ) → None ≡ row_of seat number → None ≡ number
 nothing_out seat None e = refl
 nothing_out seat (Some number) e = cc
-
--- out for good
-pub link_dropped : (seat : Seat) (number : Option ℕ) (link : Link) (old middle new : Links) → old.key_of seat ≡ number → Some link ≡ row_of seat number → middle ≡ with_row_taken link old
-    → new ≡ less_taken link middle → new ≡ with_key seat None old
-link_dropped seat None link old middle new at e taken gone = cc
-link_dropped seat (Some number) link old middle new at e taken gone =
-    let is : link ≡ link_row seat number = cc in
-    gone ∙ ap (less_taken link) taken ∙ ap (λ (l : Link). less_taken l (with_row_taken l old)) is ∙ (λ i. record {
-      key_of = λ s. cond (same_seat seat s) None (old.key_of s);
-      taken = λ s. there_and_back (old.taken s) (cond (same_seat seat s) 1 0) i;
-      taken_from = λ n s. there_and_back (old.taken_from n s) (cond (same_seat seat s) (cond (nat_eq number n) 1 0) 0) i;
-    })
 
 pub link_stays_out : (seat : Seat) (old new : Links) → None ≡ row_of seat (old.key_of seat) → new ≡ old → new ≡ with_key seat None old
 link_stays_out seat old new e same =
@@ -97,28 +79,9 @@ pub took_waiting : (seat : Seat) (old new : Waits) (row : Option WaitRow) → ro
 took_waiting seat old new row is some none =
     waited_by seat old new (old.waiting seat) refl (subst (λ r. IfSome r (λ w. TakesWait w old new)) is some) (subst (λ r. IfNone r (new ≡ old)) is none)
 
-pub waiting_out : (seat : Seat) (waiting : Option Waiting) (row : WaitRow) → Some row ≡ wait_row_of seat waiting → Some row.waiting ≡ waiting
-waiting_out seat None row e = cc
-waiting_out seat (Some waiting) row e = let is : row ≡ wait_row seat waiting = cc in ap (λ (r : WaitRow). Some r.waiting) is
-
 pub nothing_waits : (seat : Seat) (waiting : Option Waiting) → None ≡ wait_row_of seat waiting → None ≡ waiting
 nothing_waits seat None e = refl
 nothing_waits seat (Some waiting) e = cc
-
-pub waiting_dropped : (seat : Seat) (waiting : Option Waiting) (row : WaitRow) (old middle new : Waits) → old.waiting seat ≡ waiting → Some row ≡ wait_row_of seat waiting
-    → middle ≡ with_wait_taken row old → new ≡ less_waiting row middle → new ≡ with_waiting seat None old
-waiting_dropped seat None row old middle new at e taken gone = cc
-waiting_dropped seat (Some waiting) row old middle new at e taken gone =
-    let is : row ≡ wait_row seat waiting = cc in
-    gone ∙ ap (less_waiting row) taken ∙ ap (λ (r : WaitRow). less_waiting r (with_wait_taken r old)) is ∙ back
-  where
-    back : less_waiting (wait_row seat waiting) (with_wait_taken (wait_row seat waiting) old) ≡ with_waiting seat None old
-    back = λ i. record {
-      waiting = λ s. cond (same_seat seat s) None (old.waiting s);
-      taken = λ s. there_and_back (old.taken s) (cond (same_seat seat s) 1 0) i;
-      taken_forms = λ n s. there_and_back (old.taken_forms n s) (brought nat_eq same_seat (forms_of waiting.forms) seat n s) i;
-      taken_keys = λ n s. there_and_back (old.taken_keys n s) (brought nat_eq same_seat waiting.keys seat n s) i;
-    }
 
 pub waiting_stays_out : (seat : Seat) (old new : Waits) → None ≡ wait_row_of seat (old.waiting seat) → new ≡ old → new ≡ with_waiting seat None old
 waiting_stays_out seat old new e same =

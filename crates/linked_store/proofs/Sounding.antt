@@ -315,27 +315,6 @@ drop_all : (xs : List Step) → drop (length xs) xs ≡ []
 drop_all [] = refl
 drop_all (x ∷ xs) = drop_all xs
 
-pub sound_at : (f : Transaction) (marked now : ℕ) → now ≡ length (steps_of f) → IsSound f marked → IsSound f now
-sound_at f marked now is sound =
-    subst (λ n. IsSound f n) (sym is) (record {
-      distinct = sound.distinct;
-      low = omega arith;
-      can = sound.can;
-      rooms = sound.rooms;
-      now = sound.now;
-      mark = subst (λ x. AgreesWith f.tables x) (sym (ap (λ (l : List Step). apply_back l (contents f)) (drop_all (steps_of f)))) sound.now;
-      start = sound.start;
-    })
-
-pub view_at : (f : Transaction) (marked now : ℕ) → now ≡ length (steps_of f)
-    → linked_view f now ≡ record { state = state_in (contents f); keys = keys_of (contents f); marked = state_in (contents f); before = state_in (at_start f) }
-view_at f marked now is = λ i. record {
-  state = state_in (contents f);
-  keys = keys_of (contents f);
-  marked = state_in ((ap (λ n. apply_back (drop n (steps_of f)) (contents f)) is ∙ ap (λ (l : List Step). apply_back l (contents f)) (drop_all (steps_of f))) i);
-  before = state_in (at_start f);
-}
-
 -- the tables agree as well where the index holds fewer places
 agrees_held : (tables : CatalogueTables) (c d : Contents) → StaysButHeld c d → AgreesWith tables c → AgreesWith tables d
 agrees_held tables c d held agrees =

@@ -1,9 +1,9 @@
 -- What an unlinked heading field waits for.
-use Rattle.std.proofs.Common.{◌≡◌, ◌∙◌, sym, ap, refl, ℕ, ◌+◌, ◌<◌, Bool, true, false, ◌&&◌, ◌||◌, not, cond, List, [], ◌∷◌, ◌++◌, length, take, get_or, Option, Some, None, unwrap_or, is_some}
+use Rattle.std.proofs.Common.{◌≡◌, ◌∙◌, sym, ap, refl, ◌+◌, Bool, true, false, ◌&&◌, ◌||◌, not, cond, List, [], ◌∷◌, ◌++◌, Option, Some, None, unwrap_or, is_some}
 use Rattle.std.specs.Prelude.{◌==◌, filter, if◌then◌else◌}
 use Rattle.std.specs.List.{list_any}
 use Rattle.std.specs.Option.{option_map, option_map_or}
-use Rattle.std.proofs.lemmas.List.Folds.{list_any-append, list_any_more}
+use Rattle.std.proofs.lemmas.List.Folds.{list_any-append}
 use Rattle.marc_types.specs.declared.field.Field.{Field}
 use Rattle.marc_types.specs.declared.field.Subfield.{Subfield}
 use Rattle.marc_types.specs.declared.form.Form.{Form}
@@ -49,20 +49,6 @@ never false = refl
 never_and : (b c : Bool) → false ≡ (not b && (false && c))
 never_and true c = refl
 never_and false c = refl
-
-pub wants_plain : (class : Class) (h : KeptField) → None ≡ heading_base_form class h.field → Wants class h [] []
-wants_plain class h none =
-    let kind : heading_kind class h.field ≡ None = no_kind h.field (heading_kind class h.field) none in
-    record {
-      asking = λ form.
-          never (is_some h.tie.key)
-          ∙ sym (ap (λ (o : Option Kind). if is_some h.tie.key then false else option_map_or (λ k. is_form_among (asked_forms class k h) form) o false) kind);
-      leading = λ form.
-          never (is_some h.tie.key)
-          ∙ sym (ap (λ (o : Option Kind). if is_some h.tie.key then false else option_map_or (λ k. same_form form (full_form k class h.field)) o false) kind);
-      naming = λ key valid.
-          never_and (is_some h.tie.key) (names_key key h) ∙ sym (ap (λ (o : Option Kind). not (is_some h.tie.key) && (is_some o && names_key key h)) kind);
-    }
 
 -- ---- headings
 
@@ -203,18 +189,6 @@ pub no_key_noted : (key : Key) (keys : List Key) (s : Subfield) → None ≡ key
 no_key_noted key keys s named valid =
     sym (or_none (list_any (same_key key) keys))
     ∙ ap (λ b. list_any (same_key key) keys || b) (ap (λ (o : Option Key). option_map_or (same_key key) o false) named ∙ named_as key s valid)
-
-pub awaited_noted : (key one : Key) (old new : List Key) → new ≡ old ++ one ∷ [] → list_any (same_key key) new ≡ (list_any (same_key key) old || same_key key one)
-awaited_noted key one old new is =
-    ap (list_any (same_key key)) is ∙ list_any-append (same_key key) old (one ∷ []) ∙ ap (λ b. list_any (same_key key) old || b) (or_none (same_key key one))
-
-pub named_more : (keys more : List Key) (subs : List Subfield) (i : ℕ) (s : Subfield) → i < length subs → s ≡ get_or subs i s
-    → ((key : Key) → is_valid_key key ≡ true → list_any (same_key key) keys ≡ list_any (is_naming key) (take i subs))
-    → ((key : Key) → is_valid_key key ≡ true → list_any (same_key key) more ≡ (list_any (same_key key) keys || is_naming key s))
-    → (key : Key) → is_valid_key key ≡ true → list_any (same_key key) more ≡ list_any (is_naming key) (take (i + 1) subs)
-named_more keys more subs i s low at before noted key valid =
-    noted key valid ∙ ap (λ b. b || is_naming key s) (before key valid) ∙ ap (λ (x : Subfield). list_any (is_naming key) (take i subs) || is_naming key x) at
-    ∙ sym (list_any_more (is_naming key) subs i s low)
 
 -- what is no `Some` is `None`
 pub none_left : {T : Type 0} (o : Option T) → ((x : T) → o ≡ Some x → ⊥) → None ≡ o

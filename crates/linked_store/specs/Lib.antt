@@ -1,11 +1,13 @@
 pub mod Agreement
 pub mod Contents
 pub mod Fielding
+pub mod Finding
 pub mod Transactions
 pub mod Holding
 pub mod Leading
 pub mod Lending
 pub mod Linked
+pub mod Noting
 pub mod Placing
 pub mod Rooms
 pub mod Sound

@@ -1,15 +1,15 @@
 //! What a field is to be linked to, and what is known of an authority.
-ghost use Rattle.std.specs.Prelude.{◌≡◌, ◌<◌, find, IfOk, None, Some};
-ghost use Rattle.std.specs.Option.{option_copied, option_map};
+ghost use Rattle.std.specs.Prelude.{◌≡◌, find, IfOk, None, Some};
+ghost use Rattle.std.specs.Option.{option_copied};
 ghost use Rattle.marc_types.specs.declared.key.Class.TheVariants.{Authority as AnAuthority};
 ghost use Rattle.entry_record.specs.Prepared.{heading_base_form};
 ghost use Rattle.catalogue_rules.specs.Choice.{has_key};
 ghost use Rattle.catalogue_rules.specs.State.{kept_field, linkable_authorities};
-ghost use Rattle.catalogue_tables.specs.Choosing.{chosen_for, heading_choice};
 ghost use Rattle.catalogue_tables.specs.Known.{IsKnownAs};
 ghost use Rattle.catalogue_tables.specs.Seam.{HasKey};
 ghost use Rattle.linking_laws.specs.Middle.{AreAuthoritiesInOrder};
 ghost use Rattle.linked_store.specs.Linked.{IsNumber, field_of, key_of};
+ghost use Rattle.linked_store.specs.Finding.{answer_in};
 
 use crate::store::LinkedStore;
 use catalogue_tables::{Chosen, KnownAuthority};
@@ -30,8 +30,7 @@ impl LinkedStore {
     ) -> Result<Option<Chosen>, NoMemory>
         requires ordered { AreAuthoritiesInOrder self.now.state }
         requires base { option_copied base ≡ heading_base_form class field.now }
-        ensures { IfOk result (λ chosen. chosen ≡ option_map (chosen_for self.now.keys.authorities)
-            (heading_choice (linkable_authorities self.now.state) class (kept_field field.now tie.now))) }
+        ensures { IfOk result (λ chosen. chosen ≡ answer_in self.now class (kept_field field.now tie.now)) }
     {
         let keys = self.transaction.store.keys(Class::Authority);
         self.transaction
@@ -52,8 +51,7 @@ impl LinkedStore {
         requires known { HasKey self.now.keys seat }
         requires stands { field_of seat self.now ≡ Some (kept_field field.now tie.now) }
         requires unlinked { tie.now.key ≡ None }
-        ensures { IfOk result (λ chosen. chosen ≡ option_map (chosen_for self.now.keys.authorities)
-            (heading_choice (linkable_authorities self.now.state) seat.class (kept_field field.now tie.now))) }
+        ensures { IfOk result (λ chosen. chosen ≡ answer_in self.now seat.class (kept_field field.now tie.now)) }
     {
         self.transaction.tables.each_form_has_one_number();
         let keys = self.transaction.store.keys(Class::Authority);

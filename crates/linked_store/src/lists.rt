@@ -1,18 +1,19 @@
 //! The places that a stage of a commit touches.
-ghost use Rattle.std.specs.Prelude.{◌≡◌, ◌++◌, ◌||◌, true, IfOk, OnOk, Some, slice_get};
-ghost use Rattle.std.specs.List.{IsDistinct, list_any};
+ghost use Rattle.std.specs.Prelude.{◌≡◌, ◌++◌, true, IfOk, OnOk, Some, slice_get};
+ghost use Rattle.std.specs.List.{IsDistinct};
 ghost use Rattle.std.specs.Option.{option_copied, option_to_list};
 ghost use Rattle.marc_types.specs.declared.key.Key.{Key as AnyKey};
 ghost use Rattle.numbering.specs.Seats.{same_seat};
-ghost use Rattle.numbering.specs.declared.seat.Seat.{Seat as AnySeat};
 ghost use Rattle.marc_types.specs.declared.key.Class.TheVariants.{Authority as AnAuthority};
 ghost use Rattle.entry_record.specs.Authority.{is_valid_key};
 ghost use Rattle.catalogue_tables.specs.Lent.{shown_forms};
-ghost use Rattle.linking_laws.specs.Tables.{dropped_at, holds_at, linked_at};
+ghost use Rattle.linking_laws.specs.Tables.{dropped_at, linked_at};
 ghost use Rattle.linking_laws.specs.Waiting.{is_waiting_for};
-ghost use Rattle.linked_store.specs.Linked.{IsNumber, ListsSeats, key_of};
+ghost use Rattle.linked_store.specs.Linked.{IsNumber, key_of};
+ghost use Rattle.linked_store.specs.Finding.{ListsFields};
 
 use crate::store::LinkedStore;
+use catalogue_tables::gather;
 use marc_types::{Form, Key, NoMemory};
 use numbering::{Numbering, Seat, Seats};
 use std::alloc::Global;
@@ -21,8 +22,7 @@ impl LinkedStore {
     /// The seats of all places that are linked to the authority, each once, in any order.
     pub fn linked(&self, alloc: Global, number: u32) -> Result<Seats, NoMemory>
         requires { IsNumber AnAuthority number self.now.keys }
-        ensures { IfOk result (λ seats.
-            ListsSeats self.now.keys (holds_at (linked_at (key_of AnAuthority number self.now.keys)) self.now.state) seats.items) }
+        ensures { IfOk result (λ seats. ListsFields self.now (linked_at (key_of AnAuthority number self.now.keys)) seats.items) }
     {
         self.transaction.tables.linked(alloc, number)
     }
@@ -32,7 +32,7 @@ impl LinkedStore {
         requires known { IsNumber AnAuthority number self.now.keys }
         requires valid { is_valid_key (key_of AnAuthority number self.now.keys) ≡ true }
         ensures { IfOk result (λ seats.
-            ListsSeats self.now.keys (holds_at (is_waiting_for (shown_forms forms.now) (key_of AnAuthority number self.now.keys)) self.now.state) seats.items) }
+            ListsFields self.now (is_waiting_for (shown_forms forms.now) (key_of AnAuthority number self.now.keys)) seats.items) }
     {
         let found = self.transaction.tables.waiting(alloc, forms, number)?;
         let seats = in_turn(alloc, &found)?;
@@ -49,8 +49,8 @@ impl LinkedStore {
     ) -> Result<Seats, NoMemory>
         requires known { IsNumber AnAuthority number self.now.keys }
         requires valid { is_valid_key (key_of AnAuthority number self.now.keys) ≡ true }
-        ensures { IfOk result (λ seats. ListsSeats self.now.keys
-            (holds_at (dropped_at (key_of AnAuthority number self.now.keys) (option_copied successor.entry)) self.now.state) seats.items) }
+        ensures { IfOk result (λ seats.
+            ListsFields self.now (dropped_at (key_of AnAuthority number self.now.keys) (option_copied successor.entry)) seats.items) }
     {
         match successor {
             Some(_) => self.linked_or_waiting(alloc, number),
@@ -62,8 +62,8 @@ impl LinkedStore {
     fn linked_or_waiting(&self, alloc: Global, number: u32) -> Result<Seats, NoMemory>
         requires known { IsNumber AnAuthority number self.now.keys }
         requires valid { is_valid_key (key_of AnAuthority number self.now.keys) ≡ true }
-        ensures { IfOk result (λ seats. (successor : AnyKey)
-            → ListsSeats self.now.keys (holds_at (dropped_at (key_of AnAuthority number self.now.keys) (Some successor)) self.now.state) seats.items) }
+        ensures { IfOk result (λ seats. (other : AnyKey)
+            → ListsFields self.now (dropped_at (key_of AnAuthority number self.now.keys) (Some other)) seats.items) }
     {
         let mut found = self.transaction.tables.waiting(alloc, &[], number)?;
         let linked = self.transaction.tables.linked(alloc, number)?;
@@ -71,16 +71,6 @@ impl LinkedStore {
         let seats = in_turn(alloc, &found)?;
         Ok(seats)
     }
-}
-
-// Notes the seats that aren't noted yet.
-fn gather(found: &mut Numbering<Seat>, alloc: Global, seats: &[Seat]) -> Result<(), NoMemory>
-    ensures { OnOk result ((s : AnySeat) → list_any (same_seat s) found.new ≡ (list_any (same_seat s) found.old || list_any (same_seat s) seats.now)) }
-{
-    for seat in seats {
-        found.add(alloc, seat)?;
-    }
-    Ok(())
 }
 
 // The seats of a numbering in the order of their numbers.

@@ -1,5 +1,5 @@
 //! A record that comes into its place, with its rows in the tables.
-ghost use Rattle.std.specs.Prelude.{◌≡◌, ◌≤◌, ◌++◌, length, slice_get, IfOk, IsTrue, OnOk, OnErr};
+ghost use Rattle.std.specs.Prelude.{◌≡◌, ◌≤◌, ◌++◌, length, IfOk, IsTrue, OnOk, OnErr};
 ghost use Rattle.std.specs.Option.{option_map};
 ghost use Rattle.marc_types.specs.Order.{same_key};
 ghost use Rattle.numbering.specs.Numbers.{IsNumberOf};
@@ -12,6 +12,7 @@ ghost use Rattle.linking_laws.specs.Partway.{HasAtMost};
 ghost use Rattle.linked_store.specs.Linked.{IsAhead, IsNumber, IsUnchanged, key_of};
 ghost use Rattle.linked_store.specs.Placing.{AreRowsOf, IsRowAt, fields_brought, noted_rows, own_record, record_brought};
 ghost use Rattle.linked_store.specs.Turns.{row_lent};
+ghost use Rattle.linked_store.specs.Finding.{brought_at};
 
 use crate::back::go_back;
 use crate::lending::{LentForms, lent_forms};
@@ -96,7 +97,7 @@ impl LinkedStore {
         requires { fields.now ≡ fields_brought (arrival_of item.now) }
         ensures unchanged { IsUnchanged self.old self.new }
         ensures ok { IfOk result (λ row. IsRowAt item.now.class self.new.keys.authorities
-            (slice_get (fields_brought (arrival_of item.now)) place) (option_map row_lent row)) }
+            (brought_at (arrival_of item.now) place) (option_map row_lent row)) }
     {
         let Some(field) = fields.get(place as usize) else {
             return Ok(None);

@@ -1,5 +1,5 @@
 //! What an unlinked heading field waits for: the forms by which it is looked up, and the keys that it names.
-ghost use Rattle.std.specs.Prelude.{◌≡◌, ◌||◌, ◌&&◌, true, false, IfOk, OnOk};
+ghost use Rattle.std.specs.Prelude.{◌≡◌, ◌&&◌, true, false, IfOk, OnOk};
 ghost use Rattle.std.specs.List.{list_any};
 ghost use Rattle.std.specs.Option.{option_map_or};
 ghost use Rattle.marc_types.specs.declared.key.Key.{Key as AnyKey};
@@ -11,6 +11,7 @@ ghost use Rattle.heading_fields.specs.Parts.{is_subdivided};
 ghost use Rattle.entry_record.specs.Authority.{base_form, is_valid_key};
 ghost use Rattle.catalogue_rules.specs.State.{kept_field};
 ghost use Rattle.linked_store.specs.Wanted.{AsksFor, IsWanted, NamesKeys, sought_by};
+ghost use Rattle.linked_store.specs.Noting.{NotesKeys, NotesProperKeys};
 
 use catalogue_tables::{heading_form, named_key};
 use heading_fields::{full, has_subdivision, takes_subdivisions};
@@ -117,8 +118,7 @@ fn named_in(alloc: Global, subfields: &[Subfield]) -> Result<Vec<Key>, NoMemory>
 }
 
 fn note_named(keys: &mut Vec<Key>, alloc: Global, subfield: &Subfield) -> Result<(), NoMemory>
-    ensures { OnOk result ((key : AnyKey) → is_valid_key key ≡ true
-        → list_any (same_key key) keys.new.items ≡ (list_any (same_key key) keys.old.items || is_naming key subfield.now)) }
+    ensures { OnOk result (NotesProperKeys (λ key. is_naming key subfield.now) keys.old.items keys.new.items) }
 {
     let Some(key) = named_key(alloc, subfield)? else {
         return Ok(());
@@ -128,8 +128,7 @@ fn note_named(keys: &mut Vec<Key>, alloc: Global, subfield: &Subfield) -> Result
 }
 
 fn note_awaited(keys: &mut Vec<Key>, alloc: Global, tie: &Tie) -> Result<(), NoMemory>
-    ensures { OnOk result ((key : AnyKey)
-        → list_any (same_key key) keys.new.items ≡ (list_any (same_key key) keys.old.items || option_map_or (same_key key) tie.now.awaits false)) }
+    ensures { OnOk result (NotesKeys (λ key. option_map_or (same_key key) tie.now.awaits false) keys.old.items keys.new.items) }
 {
     let Some(key) = &tie.awaits else {
         return Ok(());

@@ -139,15 +139,25 @@ middle_from all s e first second a b =
       authorities_are = e;
     }
 
-stage_at : (all : List Linkable) (change : Class → KeptField → KeptField) (s : State) → linkable_authorities s ≡ all → IsEitherStage all change → IsMiddle s → IsMiddleWith all (each_field change s)
-unfolding each_field
-stage_at all change s e either m =
+-- what a state between stages gives: its authorities fit, and so does each row of either class
+middle_parts : (all : List Linkable) (s : State) → linkable_authorities s ≡ all → IsMiddle s →
+    Each (IsFit all) all × (Each (IsMiddleRow all Authority) s.authorities × Each (IsMiddleRow all Bibliographic) s.bibliographic)
+middle_parts all s e m =
     let ties : All (λ (row : Row). All (IsTied all Authority) row.1.fields) s.authorities × All (λ (row : Row). All (IsTied all Bibliographic) row.1.fields) s.bibliographic =
     subst (λ (l : List Linkable). All (λ (row : Row). All (IsTied l Authority) row.1.fields) s.authorities × All (λ (row : Row). All (IsTied l Bibliographic) row.1.fields) s.bibliographic) e m.ties in
     let fits : Each (IsFit all) all =
     subst (λ (l : List Linkable). Each (IsFit l) l) e (all_fit s.authorities m.authorities_ascend (recursion_from_All (IsRow Authority) s.authorities m.rows.0)) in
     let first = middle_rows all Authority s.authorities m.rows.0 ties.0 m.room.0 m.within.0 in
     let second = middle_rows all Bibliographic s.bibliographic m.rows.1 ties.1 m.room.1 m.within.1 in
+    (fits, (first, second))
+
+stage_at : (all : List Linkable) (change : Class → KeptField → KeptField) (s : State) → linkable_authorities s ≡ all → IsEitherStage all change → IsMiddle s → IsMiddleWith all (each_field change s)
+unfolding each_field
+stage_at all change s e either m =
+    let parts = middle_parts all s e m in
+    let fits = parts.0 in
+    let first = parts.1.0 in
+    let second = parts.1.1 in
     let stay : filter_map row_linkable (map (each_in_row (change Authority)) s.authorities) ≡ filter_map row_linkable s.authorities =
     linkables_stay (change Authority) s.authorities
     (each_weaker (IsMiddleRow all Authority) (λ (row : Row). Each (λ h. steady.IsSteady h.field (change Authority h).field) row.1.fields)
@@ -303,22 +313,18 @@ own_ascends key f rows s = subst (λ (keys : List Key). IsStrictlySortedBy key_c
 own_at : (all : List Linkable) (class : Class) (key : Key) (s : State) → linkable_authorities s ≡ all → IsMiddle s → IsMiddleWith all (settle_own all class key s)
 unfolding settle_own
 own_at all Authority key s e m =
-    let ties : All (λ (row : Row). All (IsTied all Authority) row.1.fields) s.authorities × All (λ (row : Row). All (IsTied all Bibliographic) row.1.fields) s.bibliographic =
-    subst (λ (l : List Linkable). All (λ (row : Row). All (IsTied l Authority) row.1.fields) s.authorities × All (λ (row : Row). All (IsTied l Bibliographic) row.1.fields) s.bibliographic) e m.ties in
-    let fits : Each (IsFit all) all =
-    subst (λ (l : List Linkable). Each (IsFit l) l) e (all_fit s.authorities m.authorities_ascend (recursion_from_All (IsRow Authority) s.authorities m.rows.0)) in
-    let first = middle_rows all Authority s.authorities m.rows.0 ties.0 m.room.0 m.within.0 in
-    let second = middle_rows all Bibliographic s.bibliographic m.rows.1 ties.1 m.room.1 m.within.1 in
+    let parts = middle_parts all s e m in
+    let fits = parts.0 in
+    let first = parts.1.0 in
+    let second = parts.1.1 in
     middle_from all (record { authorities = map (in_own_row key (settle_field all Authority)) s.authorities; bibliographic = s.bibliographic })
     (own_linkables all key s.authorities first ∙ e) (own_ascends key (settle_field all Authority) s.authorities m.authorities_ascend) m.bibliographic_ascend
     (each_map (IsMiddleRow all Authority) (IsMiddleRow all Authority) (in_own_row key (settle_field all Authority)) (own_row_ready all Authority key fits) s.authorities first) second
 own_at all Bibliographic key s e m =
-    let ties : All (λ (row : Row). All (IsTied all Authority) row.1.fields) s.authorities × All (λ (row : Row). All (IsTied all Bibliographic) row.1.fields) s.bibliographic =
-    subst (λ (l : List Linkable). All (λ (row : Row). All (IsTied l Authority) row.1.fields) s.authorities × All (λ (row : Row). All (IsTied l Bibliographic) row.1.fields) s.bibliographic) e m.ties in
-    let fits : Each (IsFit all) all =
-    subst (λ (l : List Linkable). Each (IsFit l) l) e (all_fit s.authorities m.authorities_ascend (recursion_from_All (IsRow Authority) s.authorities m.rows.0)) in
-    let first = middle_rows all Authority s.authorities m.rows.0 ties.0 m.room.0 m.within.0 in
-    let second = middle_rows all Bibliographic s.bibliographic m.rows.1 ties.1 m.room.1 m.within.1 in
+    let parts = middle_parts all s e m in
+    let fits = parts.0 in
+    let first = parts.1.0 in
+    let second = parts.1.1 in
     middle_from all (record { authorities = s.authorities; bibliographic = map (in_own_row key (settle_field all Bibliographic)) s.bibliographic })
     e m.authorities_ascend (own_ascends key (settle_field all Bibliographic) s.bibliographic m.bibliographic_ascend)
     first (each_map (IsMiddleRow all Bibliographic) (IsMiddleRow all Bibliographic) (in_own_row key (settle_field all Bibliographic)) (own_row_ready all Bibliographic key fits) s.bibliographic second)

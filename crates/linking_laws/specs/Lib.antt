@@ -1,6 +1,7 @@
 pub mod Behind
 pub mod Changes
 pub mod Commits
+pub mod Laws
 pub mod Middle
 pub mod Partway
 pub mod Receipts

@@ -1,11 +1,10 @@
 //! Laws of the visits of a commit, and of its receipt.
-ghost use Rattle.std.specs.Prelude.{◌≡◌, ℕ, ◌+◌, ◌≤◌, length, List, true};
+ghost use Rattle.std.specs.Prelude.{◌≡◌, ℕ, ◌≤◌, List, true};
 ghost use Rattle.marc_types.specs.declared.key.Class.{Class};
 ghost use Rattle.marc_types.specs.declared.key.Class.TheVariants.{Authority, Bibliographic};
-ghost use Rattle.marc_types.specs.declared.key.Key.{Key};
 ghost use Rattle.marc_types.specs.declared.entry.Entry.{Entry};
 ghost use Rattle.catalogue_rules.specs.State.{State};
-ghost use Rattle.linking_laws.specs.Receipts.{AreChangedBy, AreOwnCounts, receipt_by};
+ghost use Rattle.linking_laws.specs.Receipts.{AreOwnCounts, receipt_by};
 ghost use Rattle.linking_laws.specs.Visits.{commit_visits, commit_weight, own_commit_visits, touched, touched_by, visits_in};
 ghost use Rattle.linking_laws.specs.Worked.{arrived, awaiting_state, brought, deleted, linked_state, plain_name, replaced};
 ghost use Rattle.catalogue_rules.specs.Worked.{numbered};
@@ -18,6 +17,7 @@ ghost use Rattle.catalogue_rules.specs.State.{KeptField};
 ghost use Rattle.linking_laws.specs.Tables.{AreOnce};
 ghost use Rattle.marc_types.specs.declared.key.Place.{Place};
 ghost use Rattle.std.specs.List.{sum_by};
+ghost use Rattle.linking_laws.specs.Laws.{CountsChanged, OfCommits};
 
 /// The numbers at places that are named once are together within the sum over the state.
 pub fn places_named_once_are_within_the_sum()
@@ -28,19 +28,19 @@ pub fn places_named_once_are_within_the_sum()
 /// The stages of an authority's commit make at most as many visits to kept records as what it touches weighs.
 #[tactic(auto, using(crate::proofs::Sums::visits_within))]
 pub fn visits_are_within_what_is_touched()
-    ensures { (s : State) (e : Entry) → CanBeCommitted Authority s e → commit_visits s e ≤ commit_weight s e }
+    ensures { OfCommits Authority (λ s e. commit_visits s e ≤ commit_weight s e) }
 {}
 
 /// A bibliographic commit makes at most as many visits as its own heading fields weigh.
 #[tactic(auto, using(crate::proofs::Sums::own_visits_within))]
 pub fn own_visits_are_within_what_is_brought()
-    ensures { (s : State) (e : Entry) → CanBeCommitted Bibliographic s e → own_commit_visits s e ≤ arrival_weight (arrival_of e) }
+    ensures { OfCommits Bibliographic (λ s e. own_commit_visits s e ≤ arrival_weight (arrival_of e)) }
 {}
 
 /// A commit of either class makes at most as many visits as what it touches weighs.
 #[tactic(auto, using(crate::proofs::Worked::visits_touched))]
 pub fn a_commit_visits_what_it_touches()
-    ensures { (class : Class) (s : State) (e : Entry) → CanBeCommitted class s e → visits_in class s e ≤ touched s e }
+    ensures { (class : Class) → OfCommits class (λ s e. visits_in class s e ≤ touched s e) }
 {}
 
 /// A worked case: an authority to which one field is linked, by one `$0`, is replaced by another. The field counts twice, each
@@ -72,9 +72,7 @@ pub fn a_bibliographic_record_touches_two()
 /// The records that a commit changed are as many as the keys of the other records with a field that differs.
 #[tactic(auto, using(crate::proofs::Counts::changed_number))]
 pub fn a_receipt_counts_the_changed_records()
-    ensures { (at : ℕ) (s : State) (e : Entry) (k : Class) (authorities bibliographic : List Key)
-        → CanBeCommitted k s e → AreChangedBy s e Authority authorities → AreChangedBy s e Bibliographic bibliographic
-        → (receipt_by at s e).changed_records ≡ length authorities + length bibliographic }
+    ensures { (at : ℕ) (s : State) (e : Entry) (k : Class) → CanBeCommitted k s e → CountsChanged s e (receipt_by at s e) }
 {}
 
 /// The other numbers of a receipt are counted over the committed record's own fields, as soon as these are settled.

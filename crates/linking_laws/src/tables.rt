@@ -1,39 +1,32 @@
 //! Laws of the tables by which the touched places are found.
-ghost use Rattle.std.specs.Prelude.{◌≡◌, ◌≤◌, ◌==◌, ◌&&◌, true, false, List, length, find, Some};
+ghost use Rattle.std.specs.Prelude.{◌≡◌, ◌≤◌, true, List, length};
 ghost use Rattle.marc_types.specs.declared.key.Class.{Class};
 ghost use Rattle.marc_types.specs.declared.key.Key.{Key};
 ghost use Rattle.marc_types.specs.declared.key.Place.{Place};
 ghost use Rattle.marc_types.specs.declared.form.Kind.{Kind};
-ghost use Rattle.entry_record.specs.Authority.{Linkable, is_valid_key, key_of_text};
+ghost use Rattle.entry_record.specs.Authority.{Linkable, is_valid_key};
 ghost use Rattle.catalogue_rules.specs.State.{KeptField, State, linkable_authorities, each_field};
-ghost use Rattle.catalogue_rules.specs.Choice.{choice, has_key};
 ghost use Rattle.catalogue_rules.specs.Settle.{Arrival};
 ghost use Rattle.linking_laws.specs.Behind.{placed_in};
-ghost use Rattle.linking_laws.specs.Waiting.{asked_forms, is_waiting_for};
-ghost use Rattle.std.specs.Option.{option_map_or};
-ghost use Rattle.marc_types.specs.Order.{same_key};
+ghost use Rattle.linking_laws.specs.Waiting.{asked_forms};
 ghost use Rattle.marc_types.specs.declared.field.Subfield.{Subfield};
-ghost use Rattle.heading_fields.specs.Numbers.{is_naming, without_blanks};
+ghost use Rattle.heading_fields.specs.Numbers.{is_naming};
 ghost use Rattle.catalogue_rules.specs.Valid.{IsTied};
-ghost use Rattle.linking_laws.specs.Partway.{AreOrdered, IsNext, IsPartway, IsSteadyChange, swapped};
+ghost use Rattle.linking_laws.specs.Partway.{IsSteadyChange};
 ghost use Rattle.linking_laws.specs.Middle.{AreAuthoritiesInOrder, IsMiddleWith};
-ghost use Rattle.linking_laws.specs.Stages.{carry_by};
 ghost use Rattle.marc_types.specs.declared.form.Form.{Form};
-ghost use Rattle.catalogue_rules.specs.Store.{field_under};
-ghost use Rattle.linking_laws.specs.Tables.{Tables, Agree, AreIndexed, IsRelisted, IsReplaced, choice_by_index, holds_at, is_waiting_by};
+ghost use Rattle.linking_laws.specs.Tables.{Agree, AreIndexed, IsReplaced, Tables};
+ghost use Rattle.linking_laws.specs.Laws.{FindsChoices, FollowsExchange, FollowsTurns, NamesWaiting, OnTheWay, carry_in, reads_as};
 
 /// Tables that agree with a state agree with the state in which one field and its rows are exchanged.
 pub fn tables_follow_an_exchange()
-    ensures { (t u : Tables) (s : State) (p : Place) (old h : KeptField)
-        → Agree t s → field_under p s ≡ Some old → IsRelisted p h t u
-        → linkable_authorities (swapped p h s) ≡ linkable_authorities s → Agree u (swapped p h s) }
+    ensures { (t u : Tables) (s : State) (p : Place) (old h : KeptField) → FollowsExchange t u s p old h }
 {}
 
 /// In one turn of a stage a field is exchanged for what the change makes of it, and its rows with it: the tables still agree.
 pub fn tables_follow_a_turn()
-    ensures { (change : Class → KeptField → KeptField) (done : List Place) (before now : State) (p : Place) (h : KeptField) (t u : Tables)
-        → AreOrdered before → IsPartway change done before now → IsSteadyChange change before → IsNext done p h now
-        → Agree t now → IsRelisted p (change p.class h) t u → Agree u (swapped p (change p.class h) now) }
+    ensures { (change : Class → KeptField → KeptField)
+        → OnTheWay change (λ done before now. IsSteadyChange change before → FollowsTurns change done now) }
 {}
 
 /// Tables that agree with a state agree with the state with a record in its place, once its old rows are out and its new ones in.
@@ -45,21 +38,19 @@ pub fn tables_follow_a_record()
 /// Carrying changes no table.
 pub fn carrying_changes_no_table()
     ensures { (t : Tables) (all : List Linkable) (key : Key) (s : State) → IsMiddleWith all s → Agree t s
-        → Agree t (each_field (carry_by key (find (has_key key) all)) s) }
+        → Agree t (each_field (carry_in all key) s) }
 {}
 
 /// Tables that agree with a state name exactly the places that wait for a valid key or for one of some forms.
 #[tactic(auto, using(crate::proofs::Agreeing::named_by_tables))]
 pub fn tables_name_what_waits()
-    ensures { (t : Tables) (s : State) (forms : List Form) (key : Key) (p : Place) → is_valid_key key ≡ true → Agree t s
-        → is_waiting_by t forms key p ≡ holds_at (is_waiting_for forms key) s p }
+    ensures { (t : Tables) (s : State) (forms : List Form) (key : Key) → is_valid_key key ≡ true → Agree t s → NamesWaiting t s forms key }
 {}
 
 /// A `$0` names a valid key exactly where its text without blanks reads as that key.
 #[tactic(auto, using(crate::proofs::Naming::naming_is))]
 pub fn a_number_names_the_key_that_it_reads_as()
-    ensures { (key : Key) (s : Subfield) → is_valid_key key ≡ true
-        → is_naming key s ≡ ((s.code == 48) && option_map_or (same_key key) (key_of_text (without_blanks s.text)) false) }
+    ensures { (key : Key) (s : Subfield) → is_valid_key key ≡ true → is_naming key s ≡ reads_as key s }
 {}
 
 /// A field that is tied is looked up by one form or by two.
@@ -71,6 +62,5 @@ pub fn a_field_asks_for_one_form_or_two()
 /// A choice is found by the field's names and the rows of the two indexes, with no scan of the authorities.
 #[tactic(auto, using(crate::proofs::Agreeing::choice_found))]
 pub fn a_choice_is_found_by_the_indexes()
-    ensures { (t : Tables) (s : State) (class : Class) (kind : Kind) (h : KeptField) → AreAuthoritiesInOrder s → AreIndexed t s
-        → choice (linkable_authorities s) class kind h ≡ choice_by_index t (linkable_authorities s) class kind h }
+    ensures { (t : Tables) (s : State) → AreAuthoritiesInOrder s → AreIndexed t s → FindsChoices t (linkable_authorities s) }
 {}

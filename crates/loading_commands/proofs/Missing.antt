@@ -5,7 +5,7 @@ use Rattle.outside.specs.Room.{RoomView}
 use Rattle.command_words.specs.declared.library.Library.{Library}
 use Rattle.console_lines.specs.Ends.{TellsNoFault, out_unwritten, side_unwritten, pages_unwritten}
 use Rattle.console_lines.specs.declared.end.End.{End}
-use Rattle.console_lines.specs.declared.end.End.TheVariants.{Done, Refused, Unwritten, Told}
+use Rattle.console_lines.specs.declared.end.End.TheVariants.{Done, Refused, Unwritten, Told, BroughtInPart, Differ}
 use Rattle.console_lines.specs.declared.end.Unwritten.TheVariants as unwritten
 use Rattle.console_lines.specs.declared.fault.Fault.{Fault}
 use Rattle.console_lines.specs.declared.fault.Fault.TheVariants as fault
@@ -34,6 +34,8 @@ loading_untold (Unwritten unwritten.Side) untold others no_pages = absurd (other
 loading_untold (Unwritten unwritten.Pages) untold others no_pages = absurd (no_pages refl)
 loading_untold (Unwritten unwritten.Console) untold others no_pages = tt
 loading_untold (Told why) untold others no_pages = absurd untold
+loading_untold BroughtInPart untold others no_pages = absurd untold
+loading_untold Differ untold others no_pages = absurd untold
 
 pub running_untold : (end : End) → TellsNoFault end → end ≢ pages_unwritten → EndsRun end
 running_untold Done untold no_pages = tt
@@ -43,6 +45,8 @@ running_untold (Unwritten unwritten.Side) untold no_pages = tt
 running_untold (Unwritten unwritten.Pages) untold no_pages = absurd (no_pages refl)
 running_untold (Unwritten unwritten.Console) untold no_pages = tt
 running_untold (Told why) untold no_pages = absurd untold
+running_untold BroughtInPart untold no_pages = absurd untold
+running_untold Differ untold no_pages = absurd untold
 
 some_same : {A : Type 0} {x y : A} → Some x ≡ Some y → x ≡ y
 some_same is = cc

@@ -11,7 +11,7 @@ use Rattle.catalogue_rules.specs.Output.{export_of, all_keys, report_of}
 use Rattle.console_lines.specs.Ends.{end_of}
 use Rattle.console_lines.specs.declared.end.End.{End}
 use Rattle.console_lines.specs.declared.fault.Fault.{Fault}
-use Rattle.console_lines.specs.declared.end.End.TheVariants.{Done, Refused, Unwritten, Told}
+use Rattle.console_lines.specs.declared.end.End.TheVariants.{Done, Refused, Unwritten, Told, BroughtInPart, Differ}
 use Rattle.console_lines.specs.declared.end.Unwritten.TheVariants as unwritten
 use Rattle.console_lines.specs.declared.fault.Fault.TheVariants.{Usage, Input, Device, NotAJournal, Full, Memory, OldVersion, OtherHistory}
 use Rattle.output_files.specs.Outputs.{IsOutputLeft}
@@ -39,6 +39,8 @@ EndsLoad (Unwritten unwritten.Side) = ⊥
 EndsLoad (Unwritten unwritten.Pages) = ⊥
 EndsLoad (Unwritten unwritten.Console) = Unit {0}
 EndsLoad (Told why) = IsToldOfLoading why
+EndsLoad BroughtInPart = ⊥
+EndsLoad Differ = ⊥
 
 -- how `run` ends
 abbrev pub EndsRun : End → Type 0
@@ -49,6 +51,8 @@ EndsRun (Unwritten unwritten.Side) = Unit {0}
 EndsRun (Unwritten unwritten.Pages) = ⊥
 EndsRun (Unwritten unwritten.Console) = Unit {0}
 EndsRun (Told why) = IsToldOfLoading why
+EndsRun BroughtInPart = ⊥
+EndsRun Differ = ⊥
 
 -- Files were loaded whole, and make one history behind what the journal had.
 pub record IsMergedLoad (old new : RoomView) (journal : List ℕ) (libraries : List Library) : Type 0 where

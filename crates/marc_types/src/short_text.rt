@@ -38,6 +38,16 @@ impl ShortText {
         }
     }
 
+    /// A text that there is room for.
+    pub(crate) fn of(text: &str) -> ShortText
+        requires { length text.now ≤ 30 }
+        ensures { result ≡ text.now }
+    {
+        let mut short = ShortText::new();
+        short.push_str(text);
+        short
+    }
+
     /// The same text once more.
     pub(crate) fn twin(&self) -> ShortText
         ensures { result ≡ self.now }

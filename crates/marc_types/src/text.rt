@@ -69,9 +69,14 @@ impl Text {
     pub fn from_str(alloc: Global, text: &str) -> Result<Text, NoMemory>
         ensures { IfOk result (λ made. made ≡ text.now) }
     {
-        let mut made = Text::with_capacity(alloc, text.len())?;
-        made.push_str(alloc, text)?;
-        Ok(made)
+        if text.len() > ROOM {
+            return Ok(Text {
+                bytes: Bytes::Apart(String::from_str(alloc, text)?),
+            });
+        }
+        Ok(Text {
+            bytes: Bytes::Inline(ShortText::of(text)),
+        })
     }
 
     /// ASCII characters as a text.
@@ -92,10 +97,8 @@ impl Text {
                 bytes: Bytes::Apart(text),
             };
         }
-        let mut short = ShortText::new();
-        short.push_str(text.as_str());
         Text {
-            bytes: Bytes::Inline(short),
+            bytes: Bytes::Inline(ShortText::of(text.as_str())),
         }
     }
 

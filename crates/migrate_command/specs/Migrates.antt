@@ -13,7 +13,7 @@ use Rattle.durable_catalogue.specs.declared.fault.OpenFault.{OpenFault}
 use Rattle.durable_catalogue.specs.declared.fault.OpenFault.TheVariants as opening
 use Rattle.console_lines.specs.Ends.{Outcome, IsTold, TellsNoFault, console_unwritten}
 use Rattle.console_lines.specs.declared.end.End.{End}
-use Rattle.console_lines.specs.declared.end.End.TheVariants.{Done, Refused, Unwritten, Told}
+use Rattle.console_lines.specs.declared.end.End.TheVariants.{Done, Refused, Unwritten, Told, BroughtInPart, Differ}
 use Rattle.console_lines.specs.declared.end.Unwritten.TheVariants.{Out, Side, Pages, Console}
 use Rattle.console_lines.specs.declared.fault.Fault.{Fault}
 use Rattle.console_lines.specs.declared.fault.Fault.TheVariants.{Usage, Input, Device, NotAJournal, Full, Memory, OldVersion, OtherHistory}
@@ -39,6 +39,8 @@ EndsMigrating (Told Full) = Unit {0}
 EndsMigrating (Told Memory) = Unit {0}
 EndsMigrating (Told OldVersion) = Unit {0}
 EndsMigrating (Told OtherHistory) = Unit {0}
+EndsMigrating BroughtInPart = ⊥
+EndsMigrating Differ = ⊥
 
 -- Why the old journal's history is not brought over: its log was not opened, and not for its version; or it has a history, and is blank
 -- or of the newest version.

@@ -1,13 +1,14 @@
 //! A kept record's fields, each with its tie: read, and one exchanged for another.
-ghost use Rattle.std.specs.Prelude.{◌≡◌, ◌<◌, true, length, map, All, IfOk, IsTrue, MatchOption, Some, option_map, slice_get, slice_set, unwrap_or};
+ghost use Rattle.std.specs.Prelude.{◌≡◌, ◌<◌, true, length, All, IfOk, IsTrue, MatchOption, Some, option_map, slice_get, slice_set, unwrap_or};
 ghost use Rattle.std.specs.Option.{option_copied, option_map_or};
 ghost use Rattle.marc_types.specs.Fields.{tag_of};
 ghost use Rattle.marc_types.specs.Valid.{is_record};
 ghost use Rattle.iso2709_record.specs.Written.{fits, record_bytes};
 ghost use Rattle.iso2709_record.specs.Texts.{HasUtf8Texts};
-ghost use Rattle.catalogue_rules.specs.State.{fields_of, kept_field, new_field, new_record, new_tie};
+ghost use Rattle.catalogue_rules.specs.State.{fields_of, kept_field, new_record, new_tie};
 ghost use Rattle.catalogue_rules.specs.Store.{field_at, with_field};
 ghost use Rattle.numbered_store.specs.Kept.{blanks, found_field, kept_record, tied_record, with_ties};
+ghost use Rattle.numbered_store.specs.Lent.{HasNoTies, HasTies};
 
 use crate::kept::{FoundField, StoredRecord};
 use marc_types::{Field, Links, NoMemory, Sequence, Tag, Tie, TryCopy};
@@ -89,9 +90,7 @@ impl StoredRecord {
     /// The ties of all fields. Where none are kept, all are blank.
     #[tactic(auto, using(crate::proofs::Tied::own_ties, crate::proofs::Tied::no_ties))]
     pub fn ties(&self) -> Option<&[Tie]>
-        ensures { MatchOption result
-            ((kept_record self.now).fields ≡ map new_field (fields_of (kept_record self.now)))
-            (λ ties. ties.now ≡ map (λ h. h.tie) (kept_record self.now).fields) }
+        ensures { MatchOption result (HasNoTies (kept_record self.now)) (λ ties. HasTies (kept_record self.now) ties.now) }
     {
         match &self.ties {
             Some(ties) => Some(ties.as_slice()),

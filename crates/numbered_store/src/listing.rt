@@ -1,6 +1,6 @@
-ghost use Rattle.std.specs.Prelude.{◌≡◌, ◌<◌, map, IfOk, OnOk, slice_get};
-ghost use Rattle.numbered_store.specs.Kept.{shown_row};
+ghost use Rattle.std.specs.Prelude.{◌≡◌, IfOk, OnOk, slice_get};
 ghost use Rattle.numbered_store.specs.Rows.{HaveSlots, rows_by, slot_at, with_slot};
+ghost use Rattle.numbered_store.specs.Lent.{shown_rows};
 
 use crate::kept::StoredRecord;
 use crate::slots::{Slots, slot};
@@ -20,7 +20,7 @@ pub(crate) fn in_order<'a>(
     slots: &'a Slots,
 ) -> Result<RowMap<'a>, NoMemory>
     requires { HaveSlots keys.now slots.now.items }
-    ensures { IfOk result (λ rows. map shown_row rows.entries ≡ rows_by keys.now slots.now.items) }
+    ensures { IfOk result (λ rows. shown_rows rows.entries ≡ rows_by keys.now slots.now.items) }
 {
     let mut rows = BTreeMap::new(alloc);
     let known = keys.len();
@@ -37,7 +37,8 @@ fn put_in<'a>(
     slots: &'a Slots,
     number: u32,
 ) -> Result<(), NoMemory>
-    ensures { OnOk result (map shown_row rows.new.entries ≡ with_slot (slice_get keys.now number) (slot_at slots.now.items number) (map shown_row rows.old.entries)) }
+    ensures { OnOk result (shown_rows rows.new.entries
+        ≡ with_slot (slice_get keys.now number) (slot_at slots.now.items number) (shown_rows rows.old.entries)) }
 {
     let Some(key) = keys.at(number) else {
         return Ok(());

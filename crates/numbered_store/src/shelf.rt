@@ -1,13 +1,13 @@
-ghost use Rattle.std.specs.Prelude.{◌≡◌, ℕ, ◌<◌, ◌^◌, true, [], length, map, IsSome, IfSome, IfOk, OnOk, OnErr, slice_get, Some, None};
+ghost use Rattle.std.specs.Prelude.{◌≡◌, ℕ, ◌<◌, ◌^◌, true, [], length, map, IsSome, IfSome, IfOk, OnOk, OnErr, slice_get};
 ghost use Rattle.std.specs.Map.{lookup};
 ghost use Rattle.std.specs.Option.{option_map};
 ghost use Rattle.marc_types.specs.declared.key.Key.{Key as AnyKey};
 ghost use Rattle.marc_types.specs.Order.{same_key};
 ghost use Rattle.numbering.specs.Numbers.{is_known, with_thing, IsNumberOf};
 ghost use Rattle.catalogue_rules.specs.State.{KeptField, KeptRecord};
-ghost use Rattle.catalogue_rules.specs.Store.{with_field};
 ghost use Rattle.numbered_store.specs.Kept.{kept_record, shown_row};
-ghost use Rattle.numbered_store.specs.Rows.{IsProper, row_under, with_row, with_row_field};
+ghost use Rattle.numbered_store.specs.Rows.{IsProper, row_under, with_row};
+ghost use Rattle.numbered_store.specs.Changing.{ChangesByRow};
 
 use crate::kept::StoredRecord;
 use crate::listing::{RowMap, in_order};
@@ -130,8 +130,7 @@ impl Shelf {
 
     /// A record exchanged for itself with another field is that field exchanged.
     pub(crate) fn a_field_changes_with_its_record(&self)
-        ensures { (key : AnyKey) (place : ℕ) (h : KeptField) (r : KeptRecord) → lookup (same_key key) self.now.rows ≡ Some r
-            → with_row (Some key) (Some (with_field place h r)) self.now.rows ≡ with_row_field (Some key) place h self.now.rows }
+        ensures { (key : AnyKey) (place : ℕ) (h : KeptField) (r : KeptRecord) → ChangesByRow self.now.rows key place h r }
     {
         let _slots = &self.slots;
     }

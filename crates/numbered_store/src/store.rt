@@ -7,10 +7,10 @@ ghost use Rattle.numbering.specs.Numbers.{is_known, number_of, IsNumberOf};
 ghost use Rattle.numbering.specs.declared.seat.Seat.{Seat as AnySeat};
 ghost use Rattle.catalogue_rules.specs.State.{KeptField, KeptRecord, rows_of};
 ghost use Rattle.catalogue_rules.specs.Receipt.{kept_under};
-ghost use Rattle.catalogue_rules.specs.Store.{with_field};
 ghost use Rattle.numbered_store.specs.Kept.{kept_record, shown_row};
 ghost use Rattle.numbered_store.specs.Rows.{IsProper};
-ghost use Rattle.numbered_store.specs.Numbered.{IsNumber, empty_numbered, keys_in, record_at, with_field_of, with_number, with_record};
+ghost use Rattle.numbered_store.specs.Numbered.{IsNumber, empty_numbered, keys_in, record_at, with_number, with_record};
+ghost use Rattle.numbered_store.specs.Changing.{ChangesByRecord};
 
 use crate::kept::StoredRecord;
 use crate::listing::RowMap;
@@ -151,8 +151,7 @@ impl NumberedStore {
 
     /// A record exchanged for itself with another field is that field exchanged.
     pub fn a_field_changes_with_its_record(&self)
-        ensures { (seat : AnySeat) (h : KeptField) (r : KeptRecord) → record_at seat.class seat.number self.now ≡ Some r
-            → with_record seat.class seat.number (Some (with_field seat.field h r)) self.now ≡ with_field_of seat h self.now }
+        ensures { (seat : AnySeat) (h : KeptField) (r : KeptRecord) → ChangesByRecord self.now seat h r }
     {
         self.authorities.a_field_changes_with_its_record();
         self.bibliographic.a_field_changes_with_its_record();

@@ -1,2 +1,3 @@
 pub mod Numberlaws
+pub mod Tablelaws
 pub mod Pagelaws

@@ -1,4 +1,4 @@
-ghost use Rattle.std.specs.Prelude.{◌≡◌, ℕ, ◌<◌, ◌≤◌, max, length, List, [], Option, true, false, Some, None, IsSome, IsErr, IfOk, OnOk, OnErr, ◌∷◌};
+ghost use Rattle.std.specs.Prelude.{◌≡◌, ℕ, ◌<◌, ◌≤◌, max, length, List, [], Option, true, false, Some, None, IsSome, is_some, IsErr, IfOk, OnOk, OnErr, ◌∷◌};
 ghost use Rattle.outside.specs.Fault.{HasCause, count_sum};
 ghost use Rattle.outside.specs.Disk.{SameDisk};
 ghost use Rattle.outside.specs.Room.{RoomView, AsOutput, AsLog, bytes_or_none, SameBut, IsUntouched, IsPut, IsPutOrNot, IsPromiseKept};
@@ -23,6 +23,10 @@ pub trait Room {
     /// Whether commands over it take the limits of a large catalogue.
     fn is_large(&self) -> bool
         ensures { result ≡ (seen self.now).is_large };
+
+    /// Whether there is a file of that name. Where that can't be known, there is one.
+    fn is_there(&self, name: &str) -> bool
+        ensures { (seen self.now).tells ≡ true → result ≡ is_some ((seen self.now).file name.now) };
 
     /// Opens the file of that name to be read. It fails where there is no such file.
     fn open_in(&mut self, name: &str) -> Result<Self::In, Failed>

@@ -1,13 +1,13 @@
 -- What a crash leaves by a choice is one of the images.
-use Rattle.std.proofs.Common.{◌≡◌, ℕ, zero, suc, ◌+◌, ◌-◌, ◌<◌, ◌≤◌, Bool, true, false, List, [], ◌∷◌, ◌++◌, length, take, drop, get_or, replicate, reverse, nat_le, ◌==◌, refl, sym, ap, subst, ◌∙◌, arith, length-append, length-drop}
+use Rattle.std.proofs.Common.{◌≡◌, ℕ, zero, suc, ◌+◌, ◌-◌, ◌≤◌, Bool, true, false, List, [], ◌∷◌, ◌++◌, length, take, drop, replicate, reverse, nat_le, ◌==◌, refl, sym, ap, subst, ◌∙◌, arith, length-append, length-drop}
 use Rattle.std.specs.Prelude.{if◌then◌else◌}
-use Rattle.std.proofs.lemmas.List.{length-replicate, length-take-le, take_at, drop_at, take_more, reverse-append, length-reverse, take-append-drop}
+use Rattle.std.proofs.lemmas.List.{length-replicate, length-take-le, take_at, drop_at, reverse-append, length-reverse, take-append-drop}
 use Rattle.std.proofs.lemmas.Bool.Decides.{nat_tests}
 use Rattle.outside.specs.Disk.{patch, Torn, TornCut}
 use Rattle.outside.proofs.Disks.{torn_self, cut_self, length-patch, torn_patch, torn_cut}
 use Rattle.outside_mem.specs.declared.change.Change.{Change}
 use Rattle.outside_mem.specs.declared.change.Change.TheVariants.{Write, Cut, Sync}
-use Rattle.outside_mem.specs.Disk.{content_after, next_content, IsImageAfter, are_within, IsRun, image_after, next_image, chosen, synced_content}
+use Rattle.outside_mem.specs.Disk.{content_after, IsImageAfter, are_within, IsRun, image_after, chosen, synced_content}
 use Rattle.outside_mem.specs.DiskLaws.{both, at_most}
 
 -- what a crash leaves by a choice is an image, and no shorter than the content where it keeps what was written
@@ -124,19 +124,6 @@ pub chosen_tests : (choice : ℕ) (before written filled : List ℕ) → chosen 
 chosen_tests zero before written filled = refl
 chosen_tests (suc zero) before written filled = refl
 chosen_tests (suc (suc choice)) before written filled = grind (arith, nat_tests)
-
-reverse_more : (changes : List Change) (i : ℕ) (change : Change) → i < length changes → change ≡ get_or changes i change → reverse (take (i + 1) changes) ≡ change ∷ reverse (take i changes)
-reverse_more changes i change within is =
-    ap reverse (take_more changes i change within ∙ ap (λ c. take i changes ++ c ∷ []) (sym is)) ∙ reverse-append (take i changes) (change ∷ [])
-
--- one change more, in their order
-pub content_more : (first : List ℕ) (changes : List Change) (i : ℕ) (change : Change) → i < length changes → change ≡ get_or changes i change
-    → content_after first (reverse (take (i + 1) changes)) ≡ next_content change (content_after first (reverse (take i changes)))
-content_more first changes i change within is = ap (content_after first) (reverse_more changes i change within is)
-
-pub image_more : (choice : ℕ) (first : List ℕ) (changes : List Change) (i : ℕ) (change : Change) → i < length changes → change ≡ get_or changes i change
-    → image_after choice first (reverse (take (i + 1) changes)) ≡ next_image choice change (image_after choice first (reverse (take i changes))) (content_after first (reverse (take i changes)))
-image_more choice first changes i change within is = ap (image_after choice first) (reverse_more changes i change within is)
 
 within_drop : (k : ℕ) (first : List ℕ) (changes : List Change) → are_within first changes ≡ true → are_within first (drop k changes) ≡ true
 within_drop zero first changes within = within

@@ -1,5 +1,5 @@
 -- What a disk in memory was through, and what a crash at any of its moments may leave.
-use Rattle.std.specs.Prelude.{◌≡◌, ◌⊎◌, ℕ, zero, suc, ◌+◌, ◌-◌, ◌≤◌, Bool, true, false, List, [], ◌∷◌, ◌++◌, length, take, replicate, Option, Some, None, if◌then◌else◌, nat_lt, nat_le, ◌&&◌, Vec}
+use Rattle.std.specs.Prelude.{◌≡◌, ◌⊎◌, ℕ, zero, suc, ◌+◌, ◌-◌, ◌≤◌, Bool, true, false, List, [], ◌∷◌, ◌++◌, length, drop, take, replicate, Option, Some, None, if◌then◌else◌, nat_lt, nat_le, ◌&&◌, Vec}
 use Rattle.std.specs.Option.{option_or}
 use Rattle.std.specs.declared.alloc.Global.{Global}
 use Rattle.outside.specs.Disk.{DiskView, longest_disk, patch, Torn, TornCut}
@@ -85,10 +85,14 @@ chosen zero before written filled = before
 chosen (suc zero) before written filled = written
 chosen (suc (suc choice)) before written filled = filled
 
--- an image after one more change, by a choice; a cut that failed cut nothing off
+-- an image after a cut, by a choice; one that failed cut nothing off
+abbrev pub cut_image : ℕ → ℕ → Bool → List ℕ → List ℕ
+cut_image choice len done image = chosen choice image (if done then take len image else image) (take len image ++ replicate (length image - len) 255)
+
+-- an image after one more change, by a choice
 abbrev pub next_image : ℕ → Change → List ℕ → List ℕ → List ℕ
 next_image choice (Write at bytes done) image content = chosen choice image (patch at bytes image) (patch at (replicate (length bytes) 255) image)
-next_image choice (Cut len done) image content = chosen choice image (if done then take len image else image) (take len image ++ replicate (length image - len) 255)
+next_image choice (Cut len done) image content = cut_image choice len done image
 next_image choice (Sync true) image content = content
 next_image choice (Sync false) image content = image
 
@@ -106,6 +110,30 @@ pub record TapeState : Type 0 where
 -- a tape with one more change, as a call leaves it
 abbrev pub after_change : TapeState → Change → TapeState
 after_change tape change = record { first = tape.first; changes = change ∷ tape.changes; bytes = next_content change tape.bytes }
+
+-- the changes up to a moment, the latest first
+abbrev pub changes_until : ℕ → TapeState → List Change
+changes_until moment tape = drop (length tape.changes - moment) tape.changes
+
+-- a tape with one write more, which may have failed
+abbrev pub with_write : ℕ → List ℕ → Bool → TapeState → TapeState
+with_write at bytes done tape = record {
+  first = tape.first;
+  changes = Write at bytes done ∷ tape.changes;
+  bytes = if done then patch at bytes tape.bytes else tape.bytes;
+}
+
+-- with one cut more
+abbrev pub with_cut : ℕ → Bool → TapeState → TapeState
+with_cut len done tape = record {
+  first = tape.first;
+  changes = Cut len done ∷ tape.changes;
+  bytes = if done then take len tape.bytes else tape.bytes;
+}
+
+-- with one sync more
+abbrev pub with_sync : Bool → TapeState → TapeState
+with_sync done tape = record { first = tape.first; changes = Sync done ∷ tape.changes; bytes = tape.bytes }
 
 -- what a failed call leaves: its change, where it was listed and there was memory for that; else what was there
 abbrev pub FailsWith : Bool → Change → TapeState → TapeState → Type 0

@@ -1,5 +1,5 @@
 -- What a room in memory has under each name.
-use Rattle.std.specs.Prelude.{◌≡◌, ◌≢◌, ℕ, ◌<◌, List, [], length, Option, Some, None, Bool, false}
+use Rattle.std.specs.Prelude.{◌≡◌, ◌≢◌, ℕ, ◌<◌, List, [], ◌∷◌, ◌++◌, length, Option, Some, None, Bool, true, false}
 use Rattle.std.specs.List.{find, position_or_len}
 use Rattle.std.specs.Str.{bytes_eq}
 use Rattle.std.specs.String.{string_bytes}
@@ -53,3 +53,32 @@ pub record IsBlank (file : MemFile) (name : List ℕ) : Type 0 where
 pub record ChangesFile (old new : List MemFile) (name : List ℕ) (file : NamedFile) : Type 0 where
   pub here : file_in new name ≡ file
   pub others : (n : List ℕ) → n ≢ name → file_in new n ≡ file_in old n
+
+-- a file whose state is another
+abbrev pub with_state : FileState → NamedFile → NamedFile
+with_state state file = record file { state = state }
+
+-- a file of which an output is open, or none is
+abbrev pub with_output : Bool → NamedFile → NamedFile
+with_output is_output file = record file { is_output = is_output }
+
+-- a file in whose place something was closed
+abbrev pub closed_as : FileState → NamedFile → NamedFile
+closed_as state file = record file { state = state; is_output = false }
+
+-- a file whose openings fail
+abbrev pub with_no_opening : NamedFile → NamedFile
+with_no_opening file = record file { opening_fails = true }
+
+-- a file on whose objects the call with this number fails too
+abbrev pub with_fail : ℕ → NamedFile → NamedFile
+with_fail call file = record file { fails = file.fails ++ call ∷ [] }
+
+-- the file at a place is changed so, whatever its name is, and what stands under any other name stays
+abbrev pub ChangesAt : List MemFile → List MemFile → ℕ → (NamedFile → NamedFile) → Type 0
+ChangesAt old new place change = (name : List ℕ) → IsPlaceOf old name place → ChangesFile old new name (change (file_in old name))
+
+-- the file at a place can be opened, whatever its name is, and these calls fail on what is opened
+abbrev pub OpensAt : List MemFile → ℕ → List ℕ → Type 0
+OpensAt files place fails =
+    (name : List ℕ) → IsPlaceOf files name place → ((file_in files name).opening_fails ≡ false) × ((file_in files name).fails ≡ fails)

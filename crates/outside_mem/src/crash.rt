@@ -1,6 +1,6 @@
-ghost use Rattle.std.specs.Prelude.{◌≡◌, ◌-◌, ◌++◌, List, length, take, replicate, reverse, IfOk, if◌then◌else◌};
+ghost use Rattle.std.specs.Prelude.{◌≡◌, length, replicate, reverse, IfOk};
 ghost use Rattle.outside.specs.Disk.{patch};
-ghost use Rattle.outside_mem.specs.Disk.{next_content, next_image, image_after, chosen};
+ghost use Rattle.outside_mem.specs.Disk.{next_content, next_image, image_after, chosen, cut_image};
 
 use crate::change::Change;
 use std::alloc::{AllocError, Global};
@@ -55,8 +55,7 @@ fn image_cut(
     done: bool,
     image: &[u8],
 ) -> Result<Vec<u8>, AllocError>
-    ensures { IfOk result (λ next. next.items
-        ≡ chosen choice image.now (if done then take len image.now else image.now) (take len image.now ++ replicate (length image.now - len) 255)) }
+    ensures { IfOk result (λ next. next.items ≡ cut_image choice len done image.now) }
 {
     let kept = &image[..(len as usize).min(image.len())];
     if choice == 0 || choice == 1 && !done {

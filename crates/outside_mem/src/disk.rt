@@ -1,8 +1,8 @@
-ghost use Rattle.std.specs.Prelude.{◌≡◌, ℕ, ◌+◌, ◌-◌, ◌<◌, ◌≤◌, List, [], ◌∷◌, length, take, drop, min, max, Option, Some, None, Bool, true, false, is_err, IsErr, IfOk, OnOk, OnErr, if◌then◌else◌};
-ghost use Rattle.outside.specs.Disk.{longest_disk, patch, Torn, TornCut, Follows, ContentFollows, NoNewImage, OnlyContent, Elapses, SameSyncs, SyncsNow, Unchanged};
+ghost use Rattle.std.specs.Prelude.{◌≡◌, ◌+◌, ◌-◌, ◌<◌, ◌≤◌, [], length, take, drop, min, max, true, false, is_err, IsErr, IfOk, OnOk, OnErr};
+ghost use Rattle.outside.specs.Disk.{longest_disk, Torn, TornCut, Follows, ContentFollows, NoNewImage, OnlyContent, Elapses, SameSyncs, SyncsNow, Unchanged};
 ghost use Rattle.outside.specs.Fault.{HasCause};
 ghost use Rattle.outside_mem.specs.Calls.{is_next_listed, after_call, fresh_calls};
-ghost use Rattle.outside_mem.specs.Disk.{IsRun, IsImageAfter, image_after, synced_content, after_change, FailsWith};
+ghost use Rattle.outside_mem.specs.Disk.{IsRun, IsImageAfter, image_after, synced_content, after_change, changes_until, with_write, with_cut, with_sync, FailsWith};
 ghost use Rattle.outside_mem.specs.declared.change.Change.TheVariants.{Write, Cut, Sync};
 ghost use Rattle.outside_mem.specs.DiskLaws as laws;
 ghost use Rattle.outside.proofs.Disks.{told_len};
@@ -65,12 +65,10 @@ impl MemDisk {
     #[tactic(auto, using(crate::proofs::Crashes::crash_image, crate::proofs::Crashes::kept_image))]
     pub fn crash(&self, alloc: Global, moment: u64, choice: u8) -> Result<Vec<u8>, NoMemory>
         requires { moment < length self.now.tape.changes + 1 }
-        ensures chosen { IfOk result (λ image. image.items
-            ≡ image_after choice self.now.tape.first (drop (length self.now.tape.changes - moment) self.now.tape.changes)) }
-        ensures kept { IfOk result (λ image. choice ≡ 0 → image.items
-            ≡ synced_content self.now.tape.first (drop (length self.now.tape.changes - moment) self.now.tape.changes)) }
-        ensures image { IfOk result (λ image.
-            IsImageAfter self.now.tape.first (drop (length self.now.tape.changes - moment) self.now.tape.changes) image.items) }
+        ensures chosen { IfOk result (λ image. image.items ≡ image_after choice self.now.tape.first (changes_until moment self.now.tape)) }
+        ensures kept { IfOk result (λ image. choice ≡ 0
+            → image.items ≡ synced_content self.now.tape.first (changes_until moment self.now.tape)) }
+        ensures image { IfOk result (λ image. IsImageAfter self.now.tape.first (changes_until moment self.now.tape) image.items) }
     {
         Ok(self.tape.image_at(alloc, moment as usize, choice)?)
     }
@@ -79,11 +77,7 @@ impl MemDisk {
     fn write(&mut self, at: u64, bytes: &[u8], done: bool) -> Result<(), AllocError>
         requires within { at ≤ length self.old.tape.bytes }
         requires short { at + length bytes.now ≤ longest_disk }
-        ensures ok { OnOk result (self.new.tape ≡ record {
-          first = self.old.tape.first;
-          changes = Write at bytes.now done ∷ self.old.tape.changes;
-          bytes = (if done then patch at bytes.now self.old.tape.bytes else self.old.tape.bytes);
-        }) }
+        ensures ok { OnOk result (self.new.tape ≡ with_write at bytes.now done self.old.tape) }
         ensures err { OnErr result (self.new.tape ≡ self.old.tape) }
         ensures calls { self.new.calls ≡ self.old.calls }
     {
@@ -99,11 +93,7 @@ impl MemDisk {
     #[tactic(auto, using(crate::specs::DiskLaws::run_cut))]
     fn cut_to(&mut self, len: u64, done: bool) -> Result<(), AllocError>
         requires within { len ≤ length self.old.tape.bytes }
-        ensures ok { OnOk result (self.new.tape ≡ record {
-          first = self.old.tape.first;
-          changes = Cut len done ∷ self.old.tape.changes;
-          bytes = (if done then take len self.old.tape.bytes else self.old.tape.bytes);
-        }) }
+        ensures ok { OnOk result (self.new.tape ≡ with_cut len done self.old.tape) }
         ensures err { OnErr result (self.new.tape ≡ self.old.tape) }
         ensures calls { self.new.calls ≡ self.old.calls }
     {
@@ -117,11 +107,7 @@ impl MemDisk {
 
     #[tactic(auto, using(crate::specs::DiskLaws::run_sync))]
     fn sync_all(&mut self, done: bool) -> Result<(), AllocError>
-        ensures ok { OnOk result (self.new.tape ≡ record {
-          first = self.old.tape.first;
-          changes = Sync done ∷ self.old.tape.changes;
-          bytes = self.old.tape.bytes;
-        }) }
+        ensures ok { OnOk result (self.new.tape ≡ with_sync done self.old.tape) }
         ensures err { OnErr result (self.new.tape ≡ self.old.tape) }
         ensures calls { self.new.calls ≡ self.old.calls }
     {

@@ -1,7 +1,7 @@
-ghost use Rattle.std.specs.Prelude.{◌≡◌, ℕ, ◌<◌, List, [], ◌∷◌, ◌++◌, vec_len, length, Some, None, true, false, IfSome, IfNone, IfOk, OnOk, OnErr};
+ghost use Rattle.std.specs.Prelude.{◌≡◌, ℕ, ◌<◌, List, vec_len, length, Some, None, true, false, IfSome, IfNone, IfOk, OnOk, OnErr};
 ghost use Rattle.std.specs.List.{position};
 ghost use Rattle.std.specs.Option.{option_copied};
-ghost use Rattle.outside_mem.specs.Files.{told_file, is_named, file_in, without_name, IsPlaceOf, IsNameless, IsBlank, ChangesFile};
+ghost use Rattle.outside_mem.specs.Files.{told_file, is_named, file_in, without_name, IsPlaceOf, IsNameless, IsBlank, ChangesAt, OpensAt, closed_as, with_fail, with_no_opening, with_output, with_state};
 
 use crate::MemDisk;
 use outside::Bytes;
@@ -76,8 +76,7 @@ pub fn entry_of<'a>(files: &'a [MemFile], name: &str) -> Option<&'a MemFile>
 #[tactic(auto, using(crate::proofs::Places::is_under))]
 pub fn fails_of_opening(alloc: Global, files: &[MemFile], place: usize) -> Option<Vec<u64>>
     requires { place < length files.now }
-    ensures { IfSome result (λ fails. (name : List ℕ) → IsPlaceOf files.now name place
-        → ((file_in files.now name).opening_fails ≡ false) × ((file_in files.now name).fails ≡ fails.items)) }
+    ensures { IfSome result (λ fails. OpensAt files.now place fails.items) }
 {
     let file = &files[place];
     if file.opening_fails {
@@ -115,8 +114,7 @@ pub fn enter(alloc: Global, files: &mut Vec<MemFile>, name: &str) -> Result<usiz
 /// The file at a place has this state from now on.
 pub fn set_state(files: &mut Vec<MemFile>, place: usize, state: FileState)
     requires { place < vec_len files.old }
-    ensures { (name : List ℕ) → IsPlaceOf files.old.items name place
-        → ChangesFile files.old.items files.new.items name (record (file_in files.old.items name) { state = state }) }
+    ensures { ChangesAt files.old.items files.new.items place (with_state state) }
 {
     let file = &mut files[place];
     file.state = state;
@@ -125,8 +123,7 @@ pub fn set_state(files: &mut Vec<MemFile>, place: usize, state: FileState)
 /// Whether an output of the file at a place is open, from now on.
 pub fn set_output(files: &mut Vec<MemFile>, place: usize, is_output: bool)
     requires { place < vec_len files.old }
-    ensures { (name : List ℕ) → IsPlaceOf files.old.items name place
-        → ChangesFile files.old.items files.new.items name (record (file_in files.old.items name) { is_output = is_output }) }
+    ensures { ChangesAt files.old.items files.new.items place (with_output is_output) }
 {
     let file = &mut files[place];
     file.is_output = is_output;
@@ -135,8 +132,7 @@ pub fn set_output(files: &mut Vec<MemFile>, place: usize, is_output: bool)
 /// What was closed takes the place of what stands there, and nothing of the name is open any more.
 pub fn close(files: &mut Vec<MemFile>, place: usize, state: FileState)
     requires { place < vec_len files.old }
-    ensures { (name : List ℕ) → IsPlaceOf files.old.items name place
-        → ChangesFile files.old.items files.new.items name (record (file_in files.old.items name) { state = state; is_output = false }) }
+    ensures { ChangesAt files.old.items files.new.items place (closed_as state) }
 {
     let file = &mut files[place];
     file.state = state;
@@ -146,8 +142,7 @@ pub fn close(files: &mut Vec<MemFile>, place: usize, state: FileState)
 /// Each later opening of the file at a place fails.
 pub fn let_opening_fail(files: &mut Vec<MemFile>, place: usize)
     requires { place < vec_len files.old }
-    ensures { (name : List ℕ) → IsPlaceOf files.old.items name place
-        → ChangesFile files.old.items files.new.items name (record (file_in files.old.items name) { opening_fails = true }) }
+    ensures { ChangesAt files.old.items files.new.items place with_no_opening }
 {
     let file = &mut files[place];
     file.opening_fails = true;
@@ -156,9 +151,7 @@ pub fn let_opening_fail(files: &mut Vec<MemFile>, place: usize)
 /// The call with this number fails, on an object that is opened by the name of the file at a place.
 pub fn let_call_fail(files: &mut Vec<MemFile>, place: usize, call: u64) -> Result<(), AllocError>
     requires { place < vec_len files.old }
-    ensures ok { OnOk result ((name : List ℕ) → IsPlaceOf files.old.items name place
-        → ChangesFile files.old.items files.new.items name
-        (record (file_in files.old.items name) { fails = (file_in files.old.items name).fails ++ call ∷ [] })) }
+    ensures ok { OnOk result (ChangesAt files.old.items files.new.items place (with_fail call)) }
     ensures err { OnErr result ((name : List ℕ) → IsPlaceOf files.old.items name place
         → (n : List ℕ) → file_in files.new.items n ≡ file_in files.old.items n) }
 {

@@ -1,10 +1,9 @@
-ghost use Rattle.std.specs.Prelude.{◌≡◌, ◌≢◌, ℕ, ◌<◌, ◌≤◌, List, [], ◌∷◌, ◌++◌, length, Option, Some, None, true, false, IsErr, is_err, not, IfOk, IfErr, IfSome, IfNone, OnOk, OnErr, OnSome, IsSome};
+ghost use Rattle.std.specs.Prelude.{◌≡◌, ℕ, ◌<◌, ◌≤◌, List, [], ◌∷◌, length, Option, Some, None, true, false, IsErr, is_err, not, IfOk, IfErr, IfSome, IfNone, OnOk, OnErr, OnSome, IsSome};
 ghost use Rattle.std.specs.Option.{option_copied};
 ghost use Rattle.outside.specs.Disk.{SameDisk, longest_disk};
 ghost use Rattle.outside.specs.Fault.{HasCause, count_sum, counted};
 ghost use Rattle.outside.specs.Room.{AsOutput, AsLog, bytes_or_none, SameBut, IsUntouched, IsPut, IsPutOrNot};
-ghost use Rattle.outside_mem.specs.Calls.{fresh_calls};
-ghost use Rattle.outside_mem.specs.Files.{NamedFile, file_in, told_file};
+ghost use Rattle.outside_mem.specs.Files.{closed_as, file_in, told_file, with_fail, with_no_opening, with_output, with_state};
 ghost use Rattle.outside_mem.specs.Room.{file_under, room_view, open_sort, is_closed_log, SameFiles, SameCounts, HasCounts, in_count, out_count, ChangesUnder, IsSourceOf, IsSinkOf, IsLogOf, log_count, log_view, can_be_put};
 ghost use Rattle.outside_mem.specs.MemDisk.{disk_view};
 ghost use Rattle.outside_mem.specs.declared.files.FileState.TheVariants.{Absent, Closed, ClosedLog, OpenLog};
@@ -34,7 +33,7 @@ impl MemRoom {
         ensures files { (n : List ℕ) → file_under result n ≡ record { state = Absent; fails = []; opening_fails = false; is_output = false } }
         ensures closed { (n : List ℕ) → (room_view result).open_as n ≡ None }
         ensures counts { HasCounts result 0 0 0 }
-        ensures plain { (room_view result).is_large ≡ false }
+        ensures size { (room_view result).is_large ≡ false }
     {
         MemRoom {
             alloc,
@@ -49,10 +48,11 @@ impl MemRoom {
 
     /// Commands over it take the limits of a large catalogue from now on, or no more.
     pub fn set_large(&mut self, large: bool)
-        ensures large { (room_view self.new).is_large ≡ large }
+        ensures size { (room_view self.new).is_large ≡ large }
         ensures files { SameFiles self.old self.new }
         ensures open { (n : List ℕ) → (room_view self.new).open_as n ≡ (room_view self.old).open_as n }
         ensures counts { SameCounts self.old self.new }
+        ensures lefts { self.new.closed ≡ self.old.closed }
     {
         self.large = large;
     }
@@ -60,8 +60,7 @@ impl MemRoom {
     /// Makes a file of these bytes.
     pub fn put(&mut self, name: &str, bytes: Vec<u8>) -> Result<(), NoMemory>
         requires { (room_view self.old).open_as name.now ≡ None }
-        ensures ok { OnOk result (ChangesUnder self.old self.new name.now
-            (record (file_under self.old name.now) { state = Closed bytes.items; is_output = false })) }
+        ensures ok { OnOk result (ChangesUnder self.old self.new name.now (closed_as (Closed bytes.items) (file_under self.old name.now))) }
         ensures err { OnErr result (SameFiles self.old self.new) }
         ensures counts { SameCounts self.old self.new }
         ensures size { self.new.large ≡ self.old.large }
@@ -77,8 +76,7 @@ impl MemRoom {
 
     /// Lets the call with that number, counted from 0, fail on each object that is opened by this name.
     pub fn fail(&mut self, name: &str, call: u64) -> Result<(), NoMemory>
-        ensures ok { OnOk result (ChangesUnder self.old self.new name.now
-            (record (file_under self.old name.now) { fails = (file_under self.old name.now).fails ++ call ∷ [] })) }
+        ensures ok { OnOk result (ChangesUnder self.old self.new name.now (with_fail call (file_under self.old name.now))) }
         ensures err { OnErr result (SameFiles self.old self.new) }
         ensures counts { SameCounts self.old self.new }
         ensures size { self.new.large ≡ self.old.large }
@@ -90,8 +88,7 @@ impl MemRoom {
 
     /// Lets each opening by this name fail.
     pub fn fail_opening(&mut self, name: &str) -> Result<(), NoMemory>
-        ensures ok { OnOk result (ChangesUnder self.old self.new name.now
-            (record (file_under self.old name.now) { opening_fails = true })) }
+        ensures ok { OnOk result (ChangesUnder self.old self.new name.now (with_no_opening (file_under self.old name.now))) }
         ensures err { OnErr result (SameFiles self.old self.new) }
         ensures counts { SameCounts self.old self.new }
         ensures size { self.new.large ≡ self.old.large }
@@ -173,8 +170,7 @@ impl MemRoom {
     fn start_output(&mut self, name: &str) -> Option<MemSink>
         ensures lefts { self.new.closed ≡ self.old.closed }
         ensures sink { IfSome result (IsSinkOf (file_under self.old name.now)) }
-        ensures open { OnSome result (ChangesUnder self.old self.new name.now
-            (record (file_under self.old name.now) { is_output = true })) }
+        ensures open { OnSome result (ChangesUnder self.old self.new name.now (with_output true (file_under self.old name.now))) }
         ensures none { IfNone result (SameFiles self.old self.new) }
         ensures counts { SameCounts self.old self.new }
         ensures size { self.new.large ≡ self.old.large }
@@ -190,7 +186,7 @@ impl MemRoom {
     fn end_output(&mut self, name: &str)
         requires { (room_view self.old).open_as name.now ≡ Some AsOutput }
         ensures lefts { self.new.closed ≡ self.old.closed }
-        ensures closed { ChangesUnder self.old self.new name.now (record (file_under self.old name.now) { is_output = false }) }
+        ensures closed { ChangesUnder self.old self.new name.now (with_output false (file_under self.old name.now)) }
         ensures counts { SameCounts self.old self.new }
         ensures size { self.new.large ≡ self.old.large }
     {
@@ -204,8 +200,7 @@ impl MemRoom {
     fn put_output(&mut self, name: &str, object: MemSink)
         requires { (room_view self.old).open_as name.now ≡ Some AsOutput }
         ensures lefts { self.new.closed ≡ self.old.closed }
-        ensures closed { ChangesUnder self.old self.new name.now
-            (record (file_under self.old name.now) { state = Closed object.bytes; is_output = false }) }
+        ensures closed { ChangesUnder self.old self.new name.now (closed_as (Closed object.bytes) (file_under self.old name.now)) }
         ensures counts { SameCounts self.old self.new }
         ensures size { self.new.large ≡ self.old.large }
     {
@@ -219,8 +214,7 @@ impl MemRoom {
     fn start_log(&mut self, name: &str) -> Option<MemDisk>
         ensures lefts { self.new.closed ≡ self.old.closed }
         ensures disk { IfSome result (IsLogOf (file_under self.old name.now)) }
-        ensures open { OnSome result (ChangesUnder self.old self.new name.now
-            (record (file_under self.old name.now) { state = OpenLog })) }
+        ensures open { OnSome result (ChangesUnder self.old self.new name.now (with_state OpenLog (file_under self.old name.now))) }
         ensures none { IfNone result (SameFiles self.old self.new) }
         ensures counts { SameCounts self.old self.new }
         ensures size { self.new.large ≡ self.old.large }
@@ -245,6 +239,10 @@ impl Room for MemRoom {
         ensures { result ≡ self.now.large }
     {
         self.large
+    }
+
+    fn is_there(&self, name: &str) -> bool {
+        self.file(name).is_some()
     }
 
     #[tactic(auto, using(crate::proofs::Rooms::stays_same))]
@@ -279,8 +277,7 @@ impl Room for MemRoom {
 
         // It gives an empty sink, and the name is open. A fault counts once, and all else stays.
         ensures sink { IfOk result (IsSinkOf (file_under self.old name.now)) }
-        ensures open { OnOk result (ChangesUnder self.old self.new name.now
-            (record (file_under self.old name.now) { is_output = true })) }
+        ensures open { OnOk result (ChangesUnder self.old self.new name.now (with_output true (file_under self.old name.now))) }
         ensures failed { OnErr result (SameFiles self.old self.new) }
         ensures counts { HasCounts self.new (in_count self.old) (counted result (out_count self.old)) (log_count self.old) }
         ensures lefts { self.new.closed ≡ self.old.closed }
@@ -303,8 +300,7 @@ impl Room for MemRoom {
 
         // It gives a disk with the file's bytes, and the name is open. A fault counts once, and all else stays.
         ensures disk { IfOk result (IsLogOf (file_under self.old name.now)) }
-        ensures open { OnOk result (ChangesUnder self.old self.new name.now
-            (record (file_under self.old name.now) { state = OpenLog })) }
+        ensures open { OnOk result (ChangesUnder self.old self.new name.now (with_state OpenLog (file_under self.old name.now))) }
         ensures failed { OnErr result (SameFiles self.old self.new) }
         ensures counts { HasCounts self.new (in_count self.old) (out_count self.old) (counted result (log_count self.old)) }
         ensures lefts { self.new.closed ≡ self.old.closed }
@@ -342,8 +338,8 @@ impl Room for MemRoom {
         // It is put in its place exactly where that can be. Else what stands there is as it was.
         ensures fails { is_err result ≡ not (can_be_put object) }
         ensures closed { OnOk result (ChangesUnder self.old self.new name.now
-            (record (file_under self.old name.now) { state = Closed object.bytes; is_output = false })) }
-        ensures failed { OnErr result (ChangesUnder self.old self.new name.now (record (file_under self.old name.now) { is_output = false })) }
+            (closed_as (Closed object.bytes) (file_under self.old name.now))) }
+        ensures failed { OnErr result (ChangesUnder self.old self.new name.now (with_output false (file_under self.old name.now))) }
         ensures counts { HasCounts self.new (in_count self.old) (count_sum (out_count self.old) (counted result object.calls.faults)) (log_count self.old) }
         ensures lefts { self.new.closed ≡ self.old.closed }
     {
@@ -366,7 +362,7 @@ impl Room for MemRoom {
         ensures is_closed { (room_view self.new).open_as name.now ≡ None }
 
         // What stands under the name is as it was.
-        ensures closed { ChangesUnder self.old self.new name.now (record (file_under self.old name.now) { is_output = false }) }
+        ensures closed { ChangesUnder self.old self.new name.now (with_output false (file_under self.old name.now)) }
         ensures counts { HasCounts self.new (in_count self.old) (count_sum (out_count self.old) object.calls.faults) (log_count self.old) }
         ensures lefts { self.new.closed ≡ self.old.closed }
     {
@@ -381,8 +377,7 @@ impl Room for MemRoom {
 
         // The name has the disk as its closed log.
         ensures moments { SameDisk (disk_view object) (log_view (file_under self.new name.now).state) }
-        ensures closed { ChangesUnder self.old self.new name.now
-            (record (file_under self.old name.now) { state = ClosedLog object; is_output = false }) }
+        ensures closed { ChangesUnder self.old self.new name.now (closed_as (ClosedLog object) (file_under self.old name.now)) }
         ensures counts { HasCounts self.new (in_count self.old) (out_count self.old) (count_sum (log_count self.old) object.calls.faults) }
         ensures lefts { self.new.closed ≡ self.old.closed }
     {

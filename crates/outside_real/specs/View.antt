@@ -6,6 +6,10 @@ use Rattle.outside_real.specs.declared.disk.FileDisk.{FileDisk}
 use Rattle.outside_real.specs.declared.room.FileRoom.{FileRoom}
 use Rattle.std.specs.BTreeSet.{contains_text}
 
+-- the most bytes of an input: one gibibyte, and where the room is large one tebibyte
+abbrev pub longest_of : Bool → ℕ
+longest_of is_large = if is_large then 1099511627776 else 1073741824
+
 -- a disk that tells its length alone
 abbrev pub untold_disk : ℕ → ℕ → DiskView
 untold_disk len faults = record {

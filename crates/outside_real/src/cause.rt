@@ -18,6 +18,8 @@ pub enum Cause {
     LongerThanGibibyte,
     /// A large command's input has more bytes than [`crate::LONGEST_LARGE_INPUT`], or a log more than a disk.
     LongerThanTebibyte,
+    /// A file of that name is there, and none is to be written over.
+    Stands,
     /// The file is a journal, and an output would take its place.
     IsJournal,
     /// There is no such file, and its name has the form of a library's word.
@@ -54,6 +56,7 @@ impl Cause {
             Cause::NoSpace => ": no space left",
             Cause::LongerThanGibibyte => ": longer than 1 GiB",
             Cause::LongerThanTebibyte => ": longer than 1 TiB",
+            Cause::Stands => ": is there already",
             Cause::IsJournal => " is a journal; no output is written over it",
             Cause::LibraryWord => {
                 " looks like CODE=FILE, and there is no such file: is a word missing? ./NAME makes it"

@@ -2,7 +2,7 @@ ghost use Rattle.std.specs.Prelude.{◌≡◌, ◌≢◌, ℕ, ◌<◌, List, fa
 ghost use Rattle.outside.specs.Fault.{HasCause, count_sum, counted};
 ghost use Rattle.outside.specs.Room.{AsOutput, AsLog, SameBut, IsUntouched, IsPut, IsPutOrNot};
 ghost use Rattle.outside_real.specs.Held.{has_file, Holds};
-ghost use Rattle.outside_real.specs.View.{file_room_view, HasCounts};
+ghost use Rattle.outside_real.specs.View.{file_room_view, longest_of, HasCounts};
 
 use crate::beside::{Way, way_of};
 use crate::cause::Cause;
@@ -195,7 +195,9 @@ impl<R: Files<File = File> + Print + Eprint + Clock + Alloc + Clone + Drop> File
     }
 
     // The most bytes of an input.
-    fn longest_input(&self) -> u64 {
+    fn longest_input(&self) -> u64
+        ensures { result ≡ longest_of self.now.large }
+    {
         if self.large {
             LONGEST_LARGE_INPUT
         } else {
@@ -470,11 +472,22 @@ impl<R: Files<File = File> + Print + Eprint + Clock + Alloc + Clone + Send + Dro
         self.large
     }
 
+    fn is_there(&self, name: &str) -> bool {
+        if is_missing(&self.rt, name) {
+            return false;
+        }
+        self.tell(name, Cause::Stands);
+        true
+    }
+
     fn open_in(&mut self, name: &str) -> Result<FileSource<WatchedFile<R>>, Failed>
         requires { (file_room_view self.old).open_as name.now ≡ None }
         ensures stays { SameBut (file_room_view self.old) (file_room_view self.new) [] }
         ensures cause { HasCause self.old.ins self.new.ins result }
         ensures fresh { IfOk result (λ object. ⟦<FileSource<WatchedFile<R>> as Source>⟧.faults object ≡ 0) }
+
+        // It gives at most as many bytes as an input of this room may have.
+        ensures bound { IfOk result (λ object. ⟦<FileSource<WatchedFile<R>> as Source>⟧.bound object ≡ longest_of self.old.large) }
 
         // A fault counts once, and the other counts stay.
         ensures counts { HasCounts self.new (counted result self.old.ins) self.old.outs self.old.logs }

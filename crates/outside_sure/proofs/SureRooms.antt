@@ -125,7 +125,7 @@ module _ {room : ℕ} where
     log_counts = λ n. subst (λ k. faults_log (kept_under old n) old.log_faults ≤ faults_log k new.log_faults) (sym (same.under n)) ((grows_same (kept_under old n)).logs _ _ logs);
     failed_ats = λ n _. ap kept_failed_at (same.under n);
     promises = λ n. ap kept_promise (same.under n);
-    sizes = refl;
+    sizes = same.size;
   }
 
   -- something else is kept under one name
@@ -142,7 +142,7 @@ module _ {room : ℕ} where
     log_counts = λ n. (of_each Grows old new name kept keeps grows_same grows n).logs _ _ logs;
     failed_ats = λ n other. ap kept_failed_at (keeps.others n other.0);
     promises = λ n. (of_each Grows old new name kept keeps grows_same grows n).promise;
-    sizes = refl;
+    sizes = keeps.size;
   }
 
   pub apart_opened : (old new : SureRoom room) (name : List ℕ) (sort : Opened) → KeepsUnder old new name (kept_opened sort (kept_under old name))
@@ -233,7 +233,7 @@ module _ {room : ℕ} where
         log_counts = λ n. (of_each Grows old new name _ keeps grows_same grows n).logs _ _ logs;
         failed_ats = λ n _. (of_each Refused old new name _ keeps refused_same refused n).failed_at;
         promises = λ n. (of_each Grows old new name _ keeps grows_same grows n).promise;
-        sizes = refl;
+        sizes = keeps.size;
       }
 
   output_if : (d : Drawer room) (b : Bool) → nat_eq d.log_faults 0 ≡ b → (drawer_opened opened.Output d).stored ≡ d.stored

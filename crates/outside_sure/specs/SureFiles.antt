@@ -33,3 +33,7 @@ module _ {room : ℕ} where
   pub record ChangesKept (old new : List (SureFile room)) (name : List ℕ) (kept : Option (Kept room)) : Type 0 where
     pub here : kept_in new name ≡ kept
     pub others : (n : List ℕ) → n ≢ name → kept_in new n ≡ kept_in old n
+
+  -- what is kept at that place is changed so, whatever its name is, and what is kept under any other name stays
+  abbrev pub ChangesKeptAt : List (SureFile room) → List (SureFile room) → ℕ → (Option (Kept room) → Option (Kept room)) → Type 0
+  ChangesKeptAt old new place change = (name : List ℕ) → IsAt old name place → ChangesKept old new name (change (kept_in old name))

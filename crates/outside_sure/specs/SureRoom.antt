@@ -2,10 +2,11 @@
 use Rattle.std.specs.Prelude.{◌≡◌, ◌≢◌, ℕ, List, Option, Some, None, Bool, true, false, is_some, if◌then◌else◌, refl}
 use Rattle.std.proofs.Common.{sym, ◌∙◌}
 use Rattle.outside.specs.Room.{RoomView, OpenSort, AsOutput, AsLog, HoldsUpTo}
-use Rattle.outside_sure.specs.SureKept.{told_stored, stored_sort, is_stored_log, told_kept, kept_sort, is_kept_log, kept_log, faults_in, faults_out, faults_log, kept_failed_at, kept_promise, can_open}
+use Rattle.outside_sure.specs.SureKept.{told_stored, stored_sort, is_stored_log, told_kept, kept_sort, is_kept_log, kept_log, faults_in, faults_out, faults_log, kept_failed_at, kept_promise, can_open, kept_opened, kept_closed}
 use Rattle.outside_sure.specs.SureFiles.{kept_in}
 use Rattle.outside_sure.specs.declared.stored.Stored.{Stored}
 use Rattle.outside_sure.specs.declared.stored.Stored.TheVariants.{Blank, File, Log, OpenLog}
+use Rattle.outside_sure.specs.declared.drawer.Closing.{Closing}
 use Rattle.outside_sure.specs.declared.drawer.Opened.{Opened}
 use Rattle.outside_sure.specs.declared.kept.Kept.{Kept}
 use Rattle.outside_sure.specs.declared.kept.Kept.TheVariants.{Input, InDrawer}
@@ -28,7 +29,7 @@ module _ {room : ℕ} where
   abbrev pub sure_room_view : SureRoom room → RoomView
   sure_room_view sure = record {
     tells = true;
-    is_large = false;
+    is_large = sure.large;
     file = λ name. told_kept (kept_under sure name);
     open_as = λ name. kept_sort (kept_under sure name);
     has_log = λ name. is_kept_log (kept_under sure name);
@@ -41,17 +42,29 @@ module _ {room : ℕ} where
     promise = λ name. kept_promise (kept_under sure name);
   }
 
-  -- what is kept under each name stays
+  -- what is kept under each name stays, and whether the room is large
   pub record SameKept (old new : SureRoom room) : Type 0 where
+    pub size : new.large ≡ old.large
     pub under : (n : List ℕ) → kept_under new n ≡ kept_under old n
 
-  -- this is kept under the name now, and what is kept under any other stays
+  -- this is kept under the name now; what is kept under any other stays, and whether the room is large
   pub record KeepsUnder (old new : SureRoom room) (name : List ℕ) (kept : Option (Kept room)) : Type 0 where
+    pub size : new.large ≡ old.large
     pub here : kept_under new name ≡ kept
     pub others : (n : List ℕ) → n ≢ name → kept_under new n ≡ kept_under old n
 
-  -- the name is a drawer without a fault, which has a file of these bytes or none, and what is kept under any other name stays
+  -- the name was opened so, as far as it can be
+  abbrev pub Opens : SureRoom room → SureRoom room → List ℕ → Opened → Type 0
+  Opens old new name sort = KeepsUnder old new name (kept_opened sort (kept_under old name))
+
+  -- the name was closed so, with as many faults more
+  abbrev pub Closes : SureRoom room → SureRoom room → List ℕ → Closing room → ℕ → Type 0
+  Closes old new name given more = KeepsUnder old new name (kept_closed given more (kept_under old name))
+
+  -- the name is a drawer without a fault, which has a file of these bytes or none; what is kept under any other name stays, and whether the
+  -- room is large
   pub record MakesDrawer (old new : SureRoom room) (name : List ℕ) (bytes : Option (List ℕ)) : Type 0 where
+    pub size : new.large ≡ old.large
     pub file : told_kept (kept_under new name) ≡ bytes
     pub opens : (sort : Opened) → can_open sort (kept_under new name) ≡ true
     pub failed_at : kept_failed_at (kept_under new name) ≡ 0

@@ -2,7 +2,7 @@ ghost use Rattle.std.specs.Prelude.{◌≡◌, ◌≢◌, ℕ, ◌<◌, List, []
 ghost use Rattle.std.specs.Option.{option_copied};
 ghost use Rattle.outside.specs.Room.{bytes_or_none};
 ghost use Rattle.outside_sure.specs.SureKept.{told_kept, kept_sort, can_open, kept_opened, kept_closed, closing_sort, IsFull, IsKeptWell};
-ghost use Rattle.outside_sure.specs.SureFiles.{kept_in, IsAt, IsUncalled, ChangesKept};
+ghost use Rattle.outside_sure.specs.SureFiles.{kept_in, IsAt, IsUncalled, ChangesKept, ChangesKeptAt};
 ghost use Rattle.outside_sure.specs.SureWell.{are_kept_well_prop};
 ghost use Rattle.outside_sure.specs.declared.drawer.Opened.TheVariants.{Log};
 
@@ -80,8 +80,7 @@ fn open_at<'a, const ROOM: usize>(
     ensures none { (name : List ℕ) → IsAt files.old.items name place → is_none result ≡ not (can_open sort (kept_in files.old.items name)) }
     ensures bytes { IfSome result (λ held. (name : List ℕ) → IsAt files.old.items name place
         → sort ≡ Log → held.buffer.items ≡ bytes_or_none (told_kept (kept_in files.old.items name))) }
-    ensures now { (name : List ℕ) → IsAt files.old.items name place
-        → ChangesKept files.old.items files.new.items name (kept_opened sort (kept_in files.old.items name)) }
+    ensures now { ChangesKeptAt files.old.items files.new.items place (kept_opened sort) }
 {
     let file = &mut files[place];
     file.kept.open(sort)
@@ -95,8 +94,7 @@ fn close_at<'a, const ROOM: usize>(
     more: u64,
 )
     requires { place < length files.old.items }
-    ensures { (name : List ℕ) → IsAt files.old.items name place
-        → ChangesKept files.old.items files.new.items name (kept_closed closing.entry more (kept_in files.old.items name)) }
+    ensures { ChangesKeptAt files.old.items files.new.items place (kept_closed closing.entry more) }
 {
     let file = &mut files[place];
     file.kept.close(closing, more);

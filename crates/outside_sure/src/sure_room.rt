@@ -6,7 +6,7 @@ ghost use Rattle.outside.specs.Room.{AsOutput, AsLog, bytes_or_none, SameBut, Is
 ghost use Rattle.outside_sure.specs.SureState.{source_faults};
 ghost use Rattle.outside_sure.specs.SureSink.{sink_state};
 ghost use Rattle.outside_sure.specs.SureDisk.{disk_state, sure_disk_view};
-ghost use Rattle.outside_sure.specs.SureKept.{told_kept, is_input, can_open, kept_opened, kept_closed};
+ghost use Rattle.outside_sure.specs.SureKept.{told_kept, is_input, can_open};
 ghost use Rattle.outside_sure.specs.declared.kept.Kept.TheVariants.{Input};
 ghost use Rattle.outside_sure.specs.declared.drawer.Opened.TheVariants as opened;
 ghost use Rattle.outside_sure.specs.declared.drawer.Closing.TheVariants as closing;
@@ -18,11 +18,13 @@ use crate::{SureDisk, SureSink, SureSource};
 use outside::{Failed, GivenUp, NoMemory, Room};
 use std::alloc::Global;
 
-/// A room in memory whose outputs and logs fail for want of room alone, and which takes memory at no call of the trait. It isn't large. It
-/// tells its files and closed logs. Its three counts are of the openings that failed, as input, as output and as log; each drawer has a count of its own.
+/// A room in memory whose outputs and logs fail for want of room alone, and which takes memory at no call of the trait. It tells its files and
+/// closed logs. Its three counts are of the openings that failed, as input, as output and as log; each drawer has a count of its own. It takes
+/// the limits of a large catalogue only where it is made to.
 #[derive(Debug, Drop)]
 pub struct SureRoom<'a, const ROOM: usize> {
     alloc: Global,
+    large: bool,
     files: SureFiles<'a, ROOM>,
     in_faults: u64,
     out_faults: u64,
@@ -34,21 +36,33 @@ pub struct SureRoom<'a, const ROOM: usize> {
 impl<'a, const ROOM: usize> SureRoom<'a, ROOM> {
     ghost use Rattle.outside_sure.specs.SureRoom.{sure_room_view, kept_under, SameKept, KeepsUnder, MakesDrawer, HasSureCounts};
 
-    /// An empty room.
+    /// An empty room, which isn't large.
     pub fn new(alloc: Global) -> Self
         requires { ROOM + longest_write ≤ longest_disk }
         ensures empty { (n : List ℕ) → kept_under result n ≡ None }
         ensures counts { HasSureCounts result 0 0 0 }
         ensures lefts { result.closed ≡ [] }
+        ensures size { (sure_room_view result).is_large ≡ false }
     {
         SureRoom {
             alloc,
+            large: false,
             files: SureFiles::new(alloc),
             in_faults: 0,
             out_faults: 0,
             log_faults: 0,
             closed: GivenUp::none(),
         }
+    }
+
+    /// Commands over it take the limits of a large catalogue from now on, or no more.
+    pub fn set_large(&mut self, large: bool)
+        ensures size { (sure_room_view self.new).is_large ≡ large }
+        ensures kept { (n : List ℕ) → kept_under self.new n ≡ kept_under self.old n }
+        ensures counts { HasSureCounts self.new self.old.in_faults self.old.out_faults self.old.log_faults }
+        ensures lefts { self.new.closed ≡ self.old.closed }
+    {
+        self.large = large;
     }
 
     /// Makes the name an input of these bytes, whatever it was.
@@ -99,7 +113,7 @@ impl<'a, const ROOM: usize> SureRoom<'a, ROOM> {
 }
 
 impl<'a, const ROOM: usize> Room for SureRoom<'a, ROOM> {
-    ghost use Rattle.outside_sure.specs.SureRoom.{sure_room_view, kept_under, SameKept, KeepsUnder, HasSureCounts};
+    ghost use Rattle.outside_sure.specs.SureRoom.{sure_room_view, kept_under, SameKept, Opens, Closes, HasSureCounts};
 
     type In = SureSource<'a>;
 
@@ -110,9 +124,13 @@ impl<'a, const ROOM: usize> Room for SureRoom<'a, ROOM> {
     ghost seen = { sure_room_view };
 
     fn is_large(&self) -> bool
-        ensures { result ≡ false }
+        ensures { result ≡ self.now.large }
     {
-        false
+        self.large
+    }
+
+    fn is_there(&self, name: &str) -> bool {
+        self.file(name).is_some()
     }
 
     #[tactic(auto, using(crate::proofs::SureRooms::stays_kept))]
@@ -156,7 +174,7 @@ impl<'a, const ROOM: usize> Room for SureRoom<'a, ROOM> {
         // It fails exactly where the name isn't a drawer, or its log had a fault.
         ensures fails { is_err result ≡ not (can_open opened.Output (kept_under self.old name.now)) }
         ensures sink { IfOk result (λ sink. sink_state sink ≡ record { bytes = []; faults = 0 }) }
-        ensures kept { KeepsUnder self.old self.new name.now (kept_opened opened.Output (kept_under self.old name.now)) }
+        ensures kept { Opens self.old self.new name.now opened.Output }
         ensures counts { HasSureCounts self.new self.old.in_faults (counted result self.old.out_faults) self.old.log_faults }
     {
         match self.files.open(name, Opened::Output) {
@@ -184,7 +202,7 @@ impl<'a, const ROOM: usize> Room for SureRoom<'a, ROOM> {
         // It fails exactly where the name isn't a drawer, or its log had a fault.
         ensures fails { is_err result ≡ not (can_open opened.Log (kept_under self.old name.now)) }
         ensures disk { IfOk result (λ disk. disk_state disk ≡ record { bytes = bytes_or_none (told_kept (kept_under self.old name.now)); faults = 0 }) }
-        ensures kept { KeepsUnder self.old self.new name.now (kept_opened opened.Log (kept_under self.old name.now)) }
+        ensures kept { Opens self.old self.new name.now opened.Log }
         ensures counts { HasSureCounts self.new self.old.in_faults self.old.out_faults (counted result self.old.log_faults) }
     {
         match self.files.open(name, Opened::Log) {
@@ -230,9 +248,8 @@ impl<'a, const ROOM: usize> Room for SureRoom<'a, ROOM> {
 
         // It fails exactly where the sink had a fault. Else the drawer has a file of what was written.
         ensures fails { is_err result ≡ not (nat_eq object.entry.faults 0) }
-        ensures kept { OnOk result (KeepsUnder self.old self.new name.now (kept_closed (closing.Put object.entry.held) object.entry.faults (kept_under self.old name.now))) }
-        ensures left { OnErr result (KeepsUnder self.old self.new name.now
-            (kept_closed (closing.GivenUp object.entry.held) (count_sum object.entry.faults 1) (kept_under self.old name.now))) }
+        ensures kept { OnOk result (Closes self.old self.new name.now (closing.Put object.entry.held) object.entry.faults) }
+        ensures left { OnErr result (Closes self.old self.new name.now (closing.GivenUp object.entry.held) (count_sum object.entry.faults 1)) }
         ensures counts { HasSureCounts self.new self.old.in_faults self.old.out_faults self.old.log_faults }
     {
         let faults = object.faults();
@@ -259,8 +276,7 @@ impl<'a, const ROOM: usize> Room for SureRoom<'a, ROOM> {
             ≤ max ((sure_room_view self.old).failed_at name.now) (length object.entry.held.buffer.items) }
 
         // The drawer has what it had.
-        ensures kept { KeepsUnder self.old self.new name.now
-            (kept_closed (closing.GivenUp object.entry.held) object.entry.faults (kept_under self.old name.now)) }
+        ensures kept { Closes self.old self.new name.now (closing.GivenUp object.entry.held) object.entry.faults }
         ensures counts { HasSureCounts self.new self.old.in_faults self.old.out_faults self.old.log_faults }
     {
         let faults = object.faults();
@@ -281,7 +297,7 @@ impl<'a, const ROOM: usize> Room for SureRoom<'a, ROOM> {
             ≡ count_sum ((sure_room_view self.old).log_faults name.now) (sure_disk_view object.entry).faults }
 
         // The drawer has the disk as its closed log.
-        ensures kept { KeepsUnder self.old self.new name.now (kept_closed (closing.Log object.entry) object.entry.faults (kept_under self.old name.now)) }
+        ensures kept { Closes self.old self.new name.now (closing.Log object.entry) object.entry.faults }
         ensures counts { HasSureCounts self.new self.old.in_faults self.old.out_faults self.old.log_faults }
     {
         let faults = object.faults();

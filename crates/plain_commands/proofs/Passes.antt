@@ -16,7 +16,7 @@ use Rattle.console_lines.specs.declared.end.End.TheVariants.{Told}
 use Rattle.console_lines.specs.declared.end.Unwritten.TheVariants.{Out, Side, Pages, Console}
 use Rattle.console_lines.specs.declared.fault.Fault.{Fault}
 use Rattle.console_lines.specs.declared.fault.Fault.TheVariants.{Input, Full, Memory}
-use Rattle.console_lines.proofs.Ends.{told_once, told_not_unwritten, told_not_all, all_not_unwritten, out_not_console, result_done, result_line, result_front, result_no_output, result_no_pages, result_cause}
+use Rattle.console_lines.proofs.Ends.{told_once, told_not_unwritten, told_not_all, told_common, all_not_unwritten, out_not_console, result_done, result_line, result_front, result_no_output, result_no_pages, result_common, result_cause}
 use Rattle.output_files.specs.Outputs.{IsOutputLeft}
 use Rattle.output_files.proofs.Parts.{left_since}
 use Rattle.plain_commands.specs.Loading.{IsFaultOfLoading, IsFullAt}
@@ -107,6 +107,7 @@ ends_told out o told = record {
   out_cause = λ also. absurd ((result_no_output told).0 also);
   console_cause = result_cause told;
   no_side = ((result_no_output told).1, result_no_pages told);
+  common = result_common told;
   silent = λ also. absurd ((result_no_output told).0 also);
 }
 
@@ -135,6 +136,7 @@ module _ (due : FileDue) (library : Library) (out : List ℕ) (o : Outcome) wher
     out_cause = λ also. absurd (told_not_unwritten o.end why Out is also);
     console_cause = λ also. absurd (told_not_unwritten o.end why Console is also);
     no_side = (told_not_unwritten o.end why Side is, told_not_unwritten o.end why Pages is);
+    common = told_common o.end why is;
     full = λ also. full (told_once o.end why Full is also);
     whole = λ all. absurd (told_not_all o.end why is all);
     silent = λ also. absurd (told_not_unwritten o.end why Out is also);
@@ -155,6 +157,7 @@ module _ (due : FileDue) (library : Library) (out : List ℕ) (o : Outcome) wher
     out_cause = λ also. let earlier = stays.outs out in let rose = ends.out_cause also in omega (arith, earlier, rose);
     console_cause = ends.console_cause;
     no_side = ends.no_side;
+    common = ends.common;
     full = λ also. let is : Full ≡ Memory = (fault Full also).0 in cc;
     whole = λ all tells. there_more (o.old.file library.file) (λ bytes d. d.whole all) (delivered tells);
     silent = ends.silent;

@@ -29,6 +29,10 @@ pub record IsCommitted (core : Catalogued) (sums : Sums) : Type 0 where
   pub within : IsWithinLimits core.limits core.history
   pub summed : IsSummed core.history sums
 
+-- an input's fault has its cause: the count of its name rose
+abbrev pub HasInputCause : List ℕ → RoomView → RoomView → Fault → Type 0
+HasInputCause name old new why = why ≡ Input → Rose (old.in_faults name) (new.in_faults name)
+
 -- nothing accepted, nothing refused
 abbrev pub nothing_loaded : Limits → LoadedView
 nothing_loaded limits = record { limits = limits; accepted = []; refused = [] }

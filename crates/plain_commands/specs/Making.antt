@@ -10,7 +10,7 @@ use Rattle.plain_commands.specs.Totals.{sums_behind}
 use Rattle.console_lines.specs.Ends.{Outcome, IsTold, IsSilent, out_unwritten, console_unwritten}
 use Rattle.console_lines.specs.Lines.{made_line}
 use Rattle.console_lines.specs.declared.end.End.{End}
-use Rattle.console_lines.specs.declared.end.End.TheVariants.{Done, Refused, Unwritten, Told}
+use Rattle.console_lines.specs.declared.end.End.TheVariants.{Done, Refused, Unwritten, Told, BroughtInPart, Differ}
 use Rattle.console_lines.specs.declared.end.Unwritten.TheVariants.{Out, Side, Pages, Console}
 use Rattle.console_lines.specs.declared.fault.Fault.TheVariants.{Memory}
 use Rattle.marc_types.specs.declared.sums.Sums.{Sums}
@@ -33,6 +33,8 @@ EndsMaking (Unwritten Side) = ⊥
 EndsMaking (Unwritten Pages) = ⊥
 EndsMaking (Unwritten Console) = Unit {0}
 EndsMaking (Told why) = why ≡ Memory
+EndsMaking BroughtInPart = ⊥
+EndsMaking Differ = ⊥
 
 -- The command `make`: a workload of so many records into the file OUT.
 pub record Makes (seed count : ℕ) (out : List ℕ) (o : Outcome) : Type 0 where

@@ -14,7 +14,7 @@ use Rattle.catalogue_rules.specs.Settle.{state_of}
 use Rattle.catalogue_rules.specs.Output.{export_of, all_keys}
 use Rattle.file_entries.specs.Files.{IsJudged}
 use Rattle.file_entries.specs.declared.refused.RefusedItem.{RefusedItem}
-use Rattle.console_lines.specs.Ends.{Outcome, IsTold, IsAllDone, IsSilent, end_of, out_unwritten, side_unwritten, pages_unwritten, console_unwritten}
+use Rattle.console_lines.specs.Ends.{Outcome, IsTold, IsAllDone, IsCommon, IsSilent, end_of, out_unwritten, side_unwritten, pages_unwritten, console_unwritten}
 use Rattle.console_lines.specs.Lines.{refused_lines, totals_line}
 use Rattle.console_lines.specs.Totals.{totals_of}
 use Rattle.console_lines.specs.declared.end.End.{End}
@@ -95,6 +95,7 @@ pub record EndsDelivering (out : List ℕ) (o : Outcome) : Type 0 where
   pub out_cause : o.end ≡ out_unwritten → Rose (o.old.out_faults out) (o.new.out_faults out)
   pub console_cause : o.end ≡ console_unwritten → Rose o.faults o.faults_now
   pub no_side : (o.end ≢ side_unwritten) × (o.end ≢ pages_unwritten)
+  pub common : IsCommon o.end
   pub silent : o.end ≡ out_unwritten → IsSilent o
 
 -- want of memory alone is told, and leaves the room as it was
@@ -121,6 +122,7 @@ pub record PassesFile (due : FileDue) (library : Library) (out : List ℕ) (o : 
   pub out_cause : o.end ≡ out_unwritten → Rose (o.old.out_faults out) (o.new.out_faults out)
   pub console_cause : o.end ≡ console_unwritten → Rose o.faults o.faults_now
   pub no_side : (o.end ≢ side_unwritten) × (o.end ≢ pages_unwritten)
+  pub common : IsCommon o.end
   pub full : o.end ≡ Told Full → o.old.tells ≡ true
       → IsSomeAnd (o.old.file library.file) (λ bytes. IsFullAt (limits_of o.old.is_large) library.code (items bytes))
   -- the file was there, and was passed

@@ -9,11 +9,11 @@ ghost use Rattle.plain_commands.specs.GivingBack.{piece_at, refused_pieces, Deli
 ghost use Rattle.plain_commands.specs.Passing.{TellsMemoryAlone, EndsDelivering};
 
 use crate::passing::deliver;
-use crate::ready::{Ready, limits_of, prepare_bytes};
+use crate::ready::{Ready, prepare_bytes};
 use command_words::Library;
 use console_lines::{End, Fault, tell};
 use file_entries::RefusedItem;
-use marc_types::NoMemory;
+use marc_types::{Limits, NoMemory};
 use memchr::memchr;
 use memory_files::{ReadFault, read_file};
 use outside::Room;
@@ -83,7 +83,7 @@ fn deliver_pieces<R: Room>(
 
 /// The command `refused`: takes one file as `pass` does, and writes its refused pieces, as they stand in it, into the file `out`. It tells
 /// an input's fault, a file that has more than the room's limits allow, and want of memory.
-#[tactic(auto, using(outside::proofs::Closings::closed_one))]
+#[tactic(auto, using(outside::proofs::Closings::closed_one, marc_types::proofs::WithinLimits::limits_within))]
 pub fn give_back<R: Room>(
     alloc: Global,
     room: &mut R,
@@ -98,7 +98,7 @@ pub fn give_back<R: Room>(
     ensures ends { GivesBack library.now out.now
         (outcome R.seen R.Out.written R.Out.faults room.old room.new console.old console.new result) }
 {
-    let limits = limits_of(room);
+    let limits = Limits::of(room.is_large());
     let bytes = match read_file(alloc, room, library.file.as_str()) {
         Ok(bytes) => bytes,
         Err(ReadFault::InputFault) => return tell(console, Fault::Input),

@@ -2,11 +2,10 @@ ghost use Rattle.std.specs.Prelude.{◌≡◌, ◌<◌, ◌≤◌, false, None, 
 ghost use Rattle.std.specs.Option.{option_map};
 ghost use Rattle.marc_types.specs.Limits.{most_entries};
 ghost use Rattle.marc_types.specs.Valid.{is_code};
-ghost use Rattle.outside.specs.Fault.{Rose};
 ghost use Rattle.outside.specs.Room.{SameBut};
 ghost use Rattle.marc_stream.specs.Pieces.{items};
 ghost use Rattle.file_entries.specs.Entries.{IsSameFile};
-ghost use Rattle.plain_commands.specs.Loading.{IsFaultOfLoading, IsLoadedIn, IsFullIn, LoadsItems, TakesNext, told_items};
+ghost use Rattle.plain_commands.specs.Loading.{HasInputCause, IsFaultOfLoading, IsLoadedIn, IsFullIn, LoadsItems, TakesNext, told_items};
 
 use crate::loaded::Loaded;
 use catalogue_core::CoreFault;
@@ -120,8 +119,7 @@ pub fn load_file<R: Room>(
     ensures stays { SameBut (R.seen room.old) (R.seen room.new) [] }
     ensures loaded { IfOk result (IsLoadedIn limits (R.seen room.old) name.now library) }
     ensures full { IfErr result (IsFullIn limits (R.seen room.old) name.now library) }
-    ensures cause { IfErr result (λ fault. fault ≡ Fault.Input →
-        Rose ((R.seen room.old).in_faults name.now) ((R.seen room.new).in_faults name.now)) }
+    ensures cause { IfErr result (HasInputCause name.now (R.seen room.old) (R.seen room.new)) }
     ensures kind { IfErr result IsFaultOfLoading }
 {
     let source = match room.open_in(name) {

@@ -4,10 +4,10 @@ ghost use Rattle.outside.specs.Room.{SameBut};
 ghost use Rattle.console_lines.specs.Ends.{outcome};
 ghost use Rattle.plain_commands.specs.Passing.{export_due, TellsMemoryAlone, Delivers, DeliversFile, EndsDelivering, Passes};
 
-use crate::ready::{Ready, limits_of, prepare};
+use crate::ready::{Ready, prepare};
 use command_words::Library;
 use console_lines::{End, Fault, Unwritten, tell, tell_result};
-use marc_types::NoMemory;
+use marc_types::{Limits, NoMemory};
 use output_files::{Document, Export, write_document};
 use outside::{Room, WriteFault};
 use std::alloc::Global;
@@ -73,7 +73,7 @@ fn deliver_export<R: Room>(
 
 /// The command `pass`: one file through an empty catalogue with the room's limits, into the file `out`. It tells an input's fault, a
 /// file that has more than these limits allow, and want of memory.
-#[tactic(auto, using(outside::proofs::Closings::closed_one))]
+#[tactic(auto, using(outside::proofs::Closings::closed_one, marc_types::proofs::WithinLimits::limits_within))]
 pub fn pass<R: Room>(
     alloc: Global,
     room: &mut R,
@@ -88,7 +88,7 @@ pub fn pass<R: Room>(
     ensures ends { Passes library.now out.now
         (outcome R.seen R.Out.written R.Out.faults room.old room.new console.old console.new result) }
 {
-    let limits = limits_of(room);
+    let limits = Limits::of(room.is_large());
     match prepare(alloc, limits, room, library) {
         Ok(ready) => {
             let end = deliver_export(alloc, room, console, out, &ready);

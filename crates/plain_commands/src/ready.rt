@@ -1,10 +1,9 @@
 ghost use Rattle.std.specs.Prelude.{◌≡◌, ◌≢◌, ◌≤◌, None, IsTrue, IfOk, IfErr, []};
-ghost use Rattle.marc_types.specs.Limits.{most_entries, limits_of};
+ghost use Rattle.marc_types.specs.Limits.{most_entries};
 ghost use Rattle.marc_types.specs.Valid.{is_code};
-ghost use Rattle.outside.specs.Fault.{Rose};
 ghost use Rattle.outside.specs.Room.{SameBut};
 ghost use Rattle.marc_stream.specs.Pieces.{items};
-ghost use Rattle.plain_commands.specs.Loading.{IsFaultOfLoading, IsFullAt, IsFullIn};
+ghost use Rattle.plain_commands.specs.Loading.{HasInputCause, IsFaultOfLoading, IsFullAt, IsFullIn};
 ghost use Rattle.plain_commands.specs.Passing.{IsReady, IsReadyIn, IsReadyOf};
 
 use crate::loaded::Loaded;
@@ -22,15 +21,6 @@ use std::alloc::Global;
 pub struct Ready {
     pub loaded: Loaded,
     pub text: String,
-}
-
-/// The limits that a catalogue of a command over this room has.
-#[tactic(auto, using(marc_types::proofs::WithinLimits::limits_within))]
-pub fn limits_of<R: Room>(room: &R) -> Limits
-    ensures are { result ≡ limits_of (R.seen room.now).is_large }
-    ensures few { result.entries ≤ most_entries }
-{
-    Limits::of(room.is_large())
 }
 
 fn ready_of(alloc: Global, library: &Library, loaded: Loaded) -> Result<Ready, NoMemory>
@@ -87,8 +77,7 @@ pub fn prepare<R: Room>(
     ensures stays { SameBut (R.seen room.old) (R.seen room.new) [] }
     ensures ready { IfOk result (IsReadyIn limits (R.seen room.old) library.now) }
     ensures full { IfErr result (IsFullIn limits (R.seen room.old) library.now.file library.now.code) }
-    ensures cause { IfErr result (λ fault. fault ≡ Fault.Input →
-        Rose ((R.seen room.old).in_faults library.now.file) ((R.seen room.new).in_faults library.now.file)) }
+    ensures cause { IfErr result (HasInputCause library.now.file (R.seen room.old) (R.seen room.new)) }
     ensures kind { IfErr result IsFaultOfLoading }
 {
     let code = match library.code.copy(alloc) {

@@ -1,5 +1,6 @@
 ghost use Rattle.marc_types.specs.Limits.{most_made};
-ghost use Rattle.std.specs.Prelude.{◌≡◌, ◌<◌, ◌≤◌, false, OnOk, IfOk, string_bytes};
+ghost use Rattle.std.specs.Prelude.{◌≡◌, ◌<◌, ◌≤◌, ◌++◌, false, length, OnOk, IfOk, string_bytes};
+ghost use Rattle.entry_record.specs.History.{entries_size};
 ghost use Rattle.plain_commands.specs.Loading.{lacks_room, with_accepted};
 ghost use Rattle.plain_commands.specs.Making.{workload_sums, workload_line};
 
@@ -33,8 +34,25 @@ fn commit<L: Ledger>(
     }
 }
 
+/// Commits the entries that are still to come, for all of which there is room.
+#[tactic(auto, using(crate::proofs::Committed::committed_next, crate::proofs::Committed::committed_all))]
+fn commit_all<L: Ledger>(
+    alloc: Global,
+    entries: &mut Entries,
+    loaded: &mut Loaded,
+    steps: &mut Steps<L>,
+) -> Result<(), NoMemory>
+    requires few { length (loaded.old.accepted ++ entries.old) ≤ loaded.old.limits.entries }
+    requires small { entries_size (loaded.old.accepted ++ entries.old) ≤ loaded.old.limits.bytes }
+    ensures { OnOk result (loaded.new.accepted ≡ loaded.old.accepted ++ entries.old) }
+{
+    'entries: while let Some(entry) = entries.next(alloc)? {
+        commit(alloc, loaded, entry, steps)?;
+    }
+    Ok(())
+}
+
 /// The sums over a workload's receipts, where nobody asks for the steps of its commits.
-#[tactic(auto, using(crate::proofs::Committed::room_for_next, crate::proofs::Committed::committed_next, crate::proofs::Committed::committed_all))]
 fn sum_counted<L: Ledger>(
     alloc: Global,
     seed: u64,
@@ -51,9 +69,7 @@ fn sum_counted<L: Ledger>(
     let mut steps = Steps::<L>::new(blank);
     let mut entries = Entries::new(alloc, seed, count)?;
     let mut loaded = Loaded::new(alloc, Limits::PLAIN);
-    'entries: while let Some(entry) = entries.next(alloc)? {
-        commit(alloc, &mut loaded, entry, &mut steps)?;
-    }
+    commit_all(alloc, &mut entries, &mut loaded, &mut steps)?;
     Ok(loaded.sums())
 }
 

@@ -13,7 +13,7 @@ use Rattle.durable_catalogue.specs.declared.fault.OpenFault.TheVariants as openi
 use Rattle.console_lines.specs.Ends.{Outcome, IsTold, TellsNoFault, console_unwritten}
 use Rattle.console_lines.specs.Lines.{resumed_line}
 use Rattle.console_lines.specs.declared.end.End.{End}
-use Rattle.console_lines.specs.declared.end.End.TheVariants.{Done, Refused, Unwritten, Told}
+use Rattle.console_lines.specs.declared.end.End.TheVariants.{Done, Refused, Unwritten, Told, BroughtInPart, Differ}
 use Rattle.console_lines.specs.declared.end.Unwritten.TheVariants.{Out, Side, Pages, Console}
 use Rattle.console_lines.specs.declared.fault.Fault.{Fault}
 use Rattle.console_lines.specs.declared.fault.Fault.TheVariants.{Usage, Input, Device, NotAJournal, Full, Memory, OldVersion, OtherHistory}
@@ -39,6 +39,8 @@ EndsVerifyingPoint (Told Full) = Unit {0}
 EndsVerifyingPoint (Told Memory) = Unit {0}
 EndsVerifyingPoint (Told OldVersion) = Unit {0}
 EndsVerifyingPoint (Told OtherHistory) = Unit {0}
+EndsVerifyingPoint BroughtInPart = ⊥
+EndsVerifyingPoint Differ = ⊥
 
 -- so many entries of so many are those of a checkpoint that is of a front of the history
 pub record IsOwnOf (history : List Entry) (last : Option Point) (held count : ℕ) : Type 0 where

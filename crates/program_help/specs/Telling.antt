@@ -5,11 +5,11 @@ use Rattle.outside.specs.Fault.{Rose}
 use Rattle.outside.specs.Sink.{WritesFront}
 use Rattle.console_lines.specs.Ends.{Outcome, console_unwritten}
 use Rattle.console_lines.specs.declared.end.End.{End}
-use Rattle.console_lines.specs.declared.end.End.TheVariants.{Done, Refused, Unwritten, Told}
+use Rattle.console_lines.specs.declared.end.End.TheVariants.{Done, Refused, Unwritten, Told, BroughtInPart, Differ}
 use Rattle.console_lines.specs.declared.end.Unwritten.TheVariants.{Out, Side, Pages, Console}
 use Rattle.command_words.specs.declared.topic.Topic.{Topic}
 use Rattle.command_words.specs.declared.topic.Topic.TheVariants as topic
-use Rattle.program_help.specs.declared.texts.TheConstants.{ALL, PASS, RUN, LOAD, BROWSE, EXPORT, REPORT, MAKE, VERIFY, MATCHES, HOLDINGS, HEADINGS, WORKLIST, MIGRATE, SALVAGE, CHECKPOINT, QUICK, READING, REFUSED, LARGE, HELP, VERSION, STATUSES, THIS_VERSION}
+use Rattle.program_help.specs.declared.texts.TheConstants.{ALL, PASS, RUN, LOAD, BROWSE, EXPORT, REPORT, MAKE, VERIFY, MATCHES, HOLDINGS, HEADINGS, WORKLIST, MIGRATE, SALVAGE, CHECKPOINT, QUICK, READING, REFUSED, SPLIT, JOIN, TOTALS, LARGE, HELP, VERSION, STATUSES, THIS_VERSION}
 
 -- the text of a topic
 abbrev pub help_text : Topic → List ℕ
@@ -32,6 +32,9 @@ help_text topic.Checkpoint = CHECKPOINT.now
 help_text topic.Quick = QUICK.now
 help_text topic.Reading = READING.now
 help_text topic.Refused = REFUSED.now
+help_text topic.Split = SPLIT.now
+help_text topic.Join = JOIN.now
+help_text topic.Totals = TOTALS.now
 help_text topic.Large = LARGE.now
 help_text topic.Help = HELP.now
 help_text topic.Version = VERSION.now
@@ -50,6 +53,8 @@ EndsTelling (Unwritten Side) = ⊥
 EndsTelling (Unwritten Pages) = ⊥
 EndsTelling (Unwritten Console) = Unit {0}
 EndsTelling (Told fault) = ⊥
+EndsTelling BroughtInPart = ⊥
+EndsTelling Differ = ⊥
 
 -- The console was told exactly a text; or it failed, was told a front of it, and its count of faults rose.
 pub record IsTextTold (text : List ℕ) (old new : Option (List ℕ)) (before now : ℕ) (end : End) : Type 0 where

@@ -81,6 +81,10 @@ pub enum Slip<'a> {
     NoDigest {
         word: &'a str,
     },
+    /// A word stands where a number of parts is wanted.
+    NoParts {
+        word: &'a str,
+    },
 }
 
 /// How the words behind a command's name go: so many names of files, so many words `CODE=FILE`, and maybe a code.
@@ -100,7 +104,7 @@ enum Files {
     Many,
 }
 
-const VERBS: [&str; 21] = [
+const VERBS: [&str; 24] = [
     "pass",
     "run",
     "load",
@@ -119,6 +123,9 @@ const VERBS: [&str; 21] = [
     "quick",
     "reading",
     "refused",
+    "split",
+    "join",
+    "totals",
     "large",
     "help",
     "version",
@@ -207,9 +214,14 @@ fn form_of(topic: Topic, words: usize) -> Form {
         Topic::Worklist => (3, Files::None, true),
         Topic::Holdings => (3, Files::One, true),
         Topic::Headings | Topic::Reading => (2, Files::None, false),
-        Topic::Large | Topic::Help | Topic::All | Topic::Version | Topic::Statuses => {
-            (0, Files::None, false)
-        }
+        Topic::Split
+        | Topic::Join
+        | Topic::Totals
+        | Topic::Large
+        | Topic::Help
+        | Topic::All
+        | Topic::Version
+        | Topic::Statuses => (0, Files::None, false),
     };
     Form {
         topic,
@@ -225,6 +237,9 @@ fn slip_behind<'a>(alloc: Global, topic: Topic, behind: &'a [Text]) -> Result<Sl
         Topic::Help => slip_of_help(alloc, behind),
         Topic::Reading => Ok(slip_of_reading(behind)),
         Topic::Headings => Ok(slip_of_headings(topic, behind)),
+        Topic::Split => Ok(slip_of_split(behind)),
+        Topic::Join => Ok(slip_of_join(behind)),
+        Topic::Totals => Ok(slip_of_totals(behind)),
         Topic::Verify if behind.len() == 3 => Ok(slip_of_digest(behind)),
         topic => Ok(slip_of_form(&form_of(topic, behind.len()), behind)),
     }
@@ -305,6 +320,57 @@ fn slip_of_digest(behind: &[Text]) -> Slip<'_> {
         Slip::NoEntries {
             word: count.as_str(),
         }
+    }
+}
+
+/// What is wrong with the words `N PREFIX CODE=FILE ..`.
+fn slip_of_split(behind: &[Text]) -> Slip<'_> {
+    let topic = Topic::Split;
+    let [count, prefix, files @ ..] = behind else {
+        return Slip::TooFew { topic };
+    };
+    if files.is_empty() {
+        return Slip::TooFew { topic };
+    }
+    if files.len() > MOST_FILES {
+        return Slip::TooManyFiles {
+            topic,
+            files: files.len(),
+        };
+    }
+    if prefix.is_empty() {
+        return Slip::Empty { topic };
+    }
+    files
+        .iter()
+        .find_map(|word| slip_of_file(topic, word))
+        .unwrap_or(Slip::NoParts {
+            word: count.as_str(),
+        })
+}
+
+/// What is wrong with the words `OUT EXPORT ..`.
+fn slip_of_join(behind: &[Text]) -> Slip<'_> {
+    let topic = Topic::Join;
+    let [out, _, ..] = behind else {
+        return Slip::TooFew { topic };
+    };
+    if behind.iter().any(|name| name.is_empty()) {
+        return Slip::Empty { topic };
+    }
+    Slip::Twice {
+        topic,
+        name: out.as_str(),
+    }
+}
+
+/// What is wrong with the words `REPORT0 REPORT ..`.
+fn slip_of_totals(behind: &[Text]) -> Slip<'_> {
+    let topic = Topic::Totals;
+    if behind.len() < 2 {
+        Slip::TooFew { topic }
+    } else {
+        Slip::Empty { topic }
     }
 }
 
@@ -462,6 +528,7 @@ impl Slip<'_> {
             | Slip::NoNumber { topic, .. } => Some(topic),
             Slip::NoKind { .. } | Slip::NoCount { .. } => Some(Topic::Headings),
             Slip::NoEntries { .. } | Slip::NoDigest { .. } => Some(Topic::Verify),
+            Slip::NoParts { .. } => Some(Topic::Split),
         }
     }
 
@@ -509,6 +576,7 @@ impl Slip<'_> {
             }
             Slip::NoEntries { word } => write!(f, "{word} is no such number: N below 2^64"),
             Slip::NoDigest { word } => { write!(f, "{word} is no SHA-256: 64 hexadecimal digits") }
+            Slip::NoParts { word } => write!(f, "{word} is no such number: N from 2 to 1024"),
         }
     }
 }

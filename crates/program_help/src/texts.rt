@@ -24,6 +24,9 @@ reading export JOURNAL OUT [CODE]    the same without holding JOURNAL, even
                                      while a load has it; also report, matches,
                                      holdings, headings and worklist
 refused OUT CODE=FILE                write the pieces of a file that are refused
+split N PREFIX CODE=FILE ..          cut files into N parts of a catalogue
+join OUT EXPORT ..                   write the parts' exports as the whole's
+totals REPORT0 REPORT ..             tell the last line of the whole's report
 large COMMAND ..                     any of these but make, for a catalogue of
                                      more than 1048576 records or 512 MiB
 help [COMMAND]                       tell this, or how that command is used
@@ -344,6 +347,52 @@ records than a catalogue takes; 8 memory ran out.
 Example: union_cat refused back.mrc ULIB=new.mrc
 ";
 
+/// The page of `split`.
+pub const SPLIT: &str = "union_cat split N PREFIX CODE=FILE ..
+
+Cuts 1 to 64 files into N parts of a catalogue, 2 to 1024, by the keys of their
+bibliographic records, so that each part can be loaded by itself.
+CODE is the code of the library that sent FILE. It stands in the keys of the
+records that have no 003.
+Writes, FILE and PART being numbers from 0: PREFIX.authorities.FILE.mrc with the
+authorities of a file, which each part loads first; PREFIX.PART.FILE.mrc with
+its records of that part, in their order; PREFIX.parts, which tells where the
+parts begin; on the console the lines of pass, for each file. A refused record
+is in no part.
+A file is read twice, and can't be a pipe. Where one of the outputs is there
+already, nothing is written.
+Status: 0 all was taken; 1 some records were refused; 2 wrong words; 3 a file
+couldn't be read; 4 an output is there already, or one or the console couldn't
+be written; 8 memory ran out.
+Example: union_cat split 4 big ALIB=a.mrc BLIB=b.mrc
+";
+
+/// The page of `join`.
+pub const JOIN: &str = "union_cat join OUT EXPORT ..
+
+Writes the exports of the parts of a catalogue, in the order of the parts, as
+the export of the whole: the authorities once, then the other records of each.
+Writes: OUT, which is untouched where parts differ.
+Status: 0 all was written; 2 wrong words; 3 an EXPORT couldn't be read; 4 OUT
+couldn't be written; 8 memory ran out; 11 the parts differ: an EXPORT has other
+authorities than the first, or a record that doesn't come behind the part before
+it; the console tells where.
+Example: union_cat join all.out 0.out 1.out 2.out 3.out
+";
+
+/// The page of `totals`.
+pub const TOTALS: &str = "union_cat totals REPORT0 REPORT ..
+
+Tells the last line of the report on a whole catalogue, of REPORT0, which is the
+report on its authorities alone, and of the reports on its parts.
+Writes: no file; on the console that line.
+Status: 0 it is told; 2 wrong words; 3 a report couldn't be read; 4 the console
+couldn't be written; 8 memory ran out; 11 the parts differ: REPORT0 counts more
+than authorities, a REPORT counts other ones or less than REPORT0, or a file
+doesn't end with such a line; the console tells which.
+Example: union_cat totals authorities.rep 0.rep 1.rep 2.rep 3.rep
+";
+
 /// The page of `large`.
 pub const LARGE: &str = "union_cat large COMMAND ..
 
@@ -401,6 +450,7 @@ The exit statuses of all commands:
   9  the journal, POINT or NEW is of version 1; in migrate: OLD isn't
   10 in migrate and salvage: NEW has another history; in verify: POINT or HEX
      isn't JOURNAL's own
+  11 in join and totals: the parts differ
 Standard error names the file and the cause.
 ";
 

@@ -14,7 +14,7 @@ use Rattle.entry_record.specs.History.{IsWithin}
 use Rattle.durable_catalogue.specs.Logs.{HasHistory}
 use Rattle.console_lines.specs.Ends.{Outcome, IsTold, TellsNoFault, IsSilent, out_unwritten}
 use Rattle.console_lines.specs.declared.end.End.{End}
-use Rattle.console_lines.specs.declared.end.End.TheVariants.{Done, Refused, Unwritten, Told}
+use Rattle.console_lines.specs.declared.end.End.TheVariants.{Done, Refused, Unwritten, Told, BroughtInPart, Differ}
 use Rattle.console_lines.specs.declared.end.Unwritten.TheVariants.{Out, Side, Pages, Console}
 use Rattle.console_lines.specs.declared.fault.Fault.{Fault}
 use Rattle.console_lines.specs.declared.fault.Fault.TheVariants.{Usage, Input, Device, NotAJournal, Full, Memory, OldVersion, OtherHistory}
@@ -63,6 +63,8 @@ EndsLooking (Told Full) = Unit {0}
 EndsLooking (Told Memory) = Unit {0}
 EndsLooking (Told OldVersion) = ⊥
 EndsLooking (Told OtherHistory) = ⊥
+EndsLooking BroughtInPart = ⊥
+EndsLooking Differ = ⊥
 
 -- A command that looks into a journal: what is due of the history of the bytes that were read, up to their first closed gate, is written
 -- into the file OUT. The journal is only read.

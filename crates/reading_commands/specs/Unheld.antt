@@ -9,7 +9,7 @@ use Rattle.catalogue_rules.specs.Settle.{state_of}
 use Rattle.durable_catalogue.specs.Logs.{HasHistory}
 use Rattle.console_lines.specs.Ends.{Outcome, IsTold, TellsNoFault, IsSilent, out_unwritten, console_unwritten}
 use Rattle.console_lines.specs.declared.end.End.{End}
-use Rattle.console_lines.specs.declared.end.End.TheVariants.{Done, Refused, Unwritten, Told}
+use Rattle.console_lines.specs.declared.end.End.TheVariants.{Done, Refused, Unwritten, Told, BroughtInPart, Differ}
 use Rattle.console_lines.specs.declared.end.Unwritten.TheVariants.{Out, Side, Pages, Console}
 use Rattle.console_lines.specs.declared.fault.Fault.{Fault}
 use Rattle.console_lines.specs.declared.fault.Fault.TheVariants.{Usage, Input, Device, NotAJournal, Full, Memory, OldVersion, OtherHistory}
@@ -33,6 +33,8 @@ EndsUnheld (Told Full) = Unit {0}
 EndsUnheld (Told Memory) = Unit {0}
 EndsUnheld (Told OldVersion) = ⊥
 EndsUnheld (Told OtherHistory) = ⊥
+EndsUnheld BroughtInPart = ⊥
+EndsUnheld Differ = ⊥
 
 -- The command `reading holdings`: the records of the history of a journal's bytes, which are only read, up to their first closed gate, with
 -- the holdings of a file behind them into OUT, and the holdings that wait for their record into REST.

@@ -1,5 +1,5 @@
 -- When a state is that of rows: row by row, and each record by its written form and its ties.
-use Rattle.std.proofs.Common.{◌≡◌, ◌∙◌, ◌↔◌, ℕ, zero, suc, ◌<◌, Bool, true, false, cond, List, [], ◌∷◌, length, map, Option, Some, None, refl, sym, ap, subst, arith}
+use Rattle.std.proofs.Common.{◌≡◌, ◌∙◌, ◌↔◌, suc, Bool, true, false, cond, List, [], ◌∷◌, length, map, refl, sym, ap, subst, arith}
 use Rattle.std.specs.Prelude.{All, filter}
 use Rattle.std.proofs.lemmas.List.Elements.{All-nil, All-cons, All-head, All-tail}
 use Rattle.std.specs.Bool.{Decides}
@@ -15,7 +15,7 @@ use Rattle.marc_types.specs.Order.{same_key, key_Decides}
 use Rattle.marc_types.specs.declared.record.Record.{Record}
 use Rattle.iso2709_record.specs.Written.{fits, record_bytes}
 use Rattle.written_record.specs.Records.{IsOfRecord, one_record}
-use Rattle.catalogue_rules.specs.State.{KeptField, KeptRecord, Row, State, fields_of, kept_field, new_field, new_tie, tied}
+use Rattle.catalogue_rules.specs.State.{KeptField, KeptRecord, Row, fields_of, kept_field, new_field, new_tie, tied}
 use Rattle.catalogue_rules.specs.Sameness.{same_field, same_tie}
 use Rattle.linking_laws.proofs.Sames.{kept_Decides}
 use Rattle.numbered_store.specs.Kept.{kept_record}
@@ -23,7 +23,7 @@ use Rattle.numbered_store.specs.declared.kept.StoredRecord.{StoredRecord}
 use Rattle.numbered_store.proofs.Tied.{kept_fields}
 use Rattle.checkpoint.specs.Format.{ties_of}
 use Rattle.kept_rows.specs.declared.row.KeptRow.{KeptRow}
-use Rattle.kept_rows.specs.Rows.{is_of, row_of, rows_in, state_of_rows}
+use Rattle.kept_rows.specs.Rows.{is_of, row_of, rows_in}
 
 length_mapped : {A B : Type 0} (f : A → B) (xs : List A) → length (map f xs) ≡ length xs
 length_mapped f [] = refl
@@ -44,10 +44,6 @@ pub none_first : (class : Class) (rows : List KeptRow) → length rows ≡ 0 →
 unfolding rows_in
 none_first class [] e = refl
 none_first class (r ∷ rows) e = absurd (omega (arith, e))
-
--- one record is the first of others, or not
-pub both_first : (row other : Row) (rows others : List Row) → row ≡ other → (row ∷ rows ≡ other ∷ others) ↔ (rows ≡ others)
-both_first row other rows others same = ((λ e. cc), (λ e. cc))
 
 -- ---- keys
 

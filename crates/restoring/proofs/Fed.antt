@@ -1,14 +1,12 @@
 -- How far the rows have come.
 use Rattle.std.proofs.Common.{◌≡◌, true, List, [], ◌∷◌, ◌++◌, sym, ap, subst, ◌∙◌, append_assoc}
-use Rattle.std.specs.Prelude.{All}
 use Rattle.std.specs.List.{AllByRecursion}
-use Rattle.std.proofs.lemmas.List.Elements.{recursion_from_All}
 use Rattle.catalogue_rules.specs.State.{State, empty_state}
 use Rattle.kept_rows.specs.declared.row.KeptRow.{KeptRow}
 use Rattle.kept_rows.specs.Rows.{row_of, rows_in, state_of_rows, are_in_order}
 use Rattle.kept_rows.specs.Standing.{IsSoundRow}
 use Rattle.restoring.specs.Feeding.{IsLastKey, with_last}
-use Rattle.restoring.proofs.Lasts.{next_last, state_more, nil_behind}
+use Rattle.restoring.proofs.Lasts.{next_last, state_more}
 
 abbrev pub IsSoundAlone : KeptRow → Type 0
 IsSoundAlone r = IsSoundRow r.class (row_of r)
@@ -27,11 +25,6 @@ behind : (front rest : List KeptRow) → AllByRecursion IsSoundAlone (front ++ r
 behind [] rest a = a
 behind (r ∷ front) rest a = behind front rest a.1
 
--- the next row is sound, and its key stands last
-pub next_sound : (all rest : List KeptRow) (r : KeptRow) (left : List KeptRow) (s : State) → All IsSoundAlone all → rest ≡ r ∷ left → IsFed all rest s → IsSoundRow r.class (row_of r)
-next_sound all rest r left s sound next fed =
-    (behind fed.front (r ∷ left) (subst (λ rows. AllByRecursion IsSoundAlone rows) (fed.split ∙ ap (λ rows. fed.front ++ rows) next) (recursion_from_All IsSoundAlone all sound))).0
-
 pub next_behind : (all rest : List KeptRow) (r : KeptRow) (left : List KeptRow) (s : State) → are_in_order all ≡ true → rest ≡ r ∷ left → IsFed all rest s → IsLastKey r.class r.key s
 next_behind all rest r left s order next fed =
     subst (λ t. IsLastKey r.class r.key t) (sym fed.state) (next_last fed.front r left (sym (ap are_in_order (fed.split ∙ ap (λ rows. fed.front ++ rows) next)) ∙ order))
@@ -42,6 +35,3 @@ one_fed all rest r left s t is next fed = record {
   split = fed.split ∙ ap (λ rows. fed.front ++ rows) next ∙ sym (append_assoc fed.front (r ∷ []) left);
   state = is ∙ ap (with_last r.class (row_of r)) fed.state ∙ state_more fed.front r;
 }
-
-pub all_fed : (all rest : List KeptRow) (s : State) → rest ≡ [] → IsFed all rest s → s ≡ state_of_rows all
-all_fed all rest s none fed = fed.state ∙ sym (ap state_of_rows (fed.split ∙ ap (λ rows. fed.front ++ rows) none ∙ nil_behind fed.front))

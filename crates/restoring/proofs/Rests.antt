@@ -68,10 +68,6 @@ whole_either false s f = refl
 pub rightly : (class : Class) (h : KeptField) → is_whole_rightly class (tag_of h.field) h.tie ≡ true → IsWholeRightly class h
 rightly class h e = either_whole h.tie.whole (is_subdividable class (tag_of h.field)) e
 
-pub unrightly : (all : List Linkable) (class : Class) (h : KeptField) → is_whole_rightly class (tag_of h.field) h.tie ≡ false → Decides false (DoesRest all class h)
-unrightly all class h e =
-    (λ on. absurd (false≢true on), λ rests. sym e ∙ whole_either h.tie.whole (is_subdividable class (tag_of h.field)) rests.tied.whole)
-
 -- ---- the base part
 
 some_at : {T : Type 0} (x : T) (xs : List T) (b any : Bool) → (any ≡ true → xs ≢ []) → (b || any) ≡ true → cond b (x ∷ xs) xs ≢ []

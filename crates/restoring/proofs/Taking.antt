@@ -1,5 +1,5 @@
 -- How a history is taken up from a checkpoint.
-use Rattle.std.proofs.Common.{◌≡◌, ◌∙◌, ℕ, zero, suc, ◌+◌, ◌≤◌, List, length, take, Option, Some, None, IfSome, refl, sym, ap, subst, ◌⊎◌, inl, inr, arith}
+use Rattle.std.proofs.Common.{◌≡◌, ◌∙◌, ℕ, zero, suc, ◌+◌, ◌≤◌, List, drop, length, take, Option, Some, None, IfSome, refl, sym, ap, subst, ◌⊎◌, inl, inr, arith}
 use Rattle.std.specs.Prelude.{All}
 use Rattle.std.proofs.lemmas.List.Elements.{All-take}
 use Rattle.marc_types.specs.declared.entry.Entry.{Entry}
@@ -14,7 +14,7 @@ use Rattle.checkpoint.specs.declared.point.Point.{Point}
 use Rattle.checkpoint.proofs.Going.{resumed_whole}
 use Rattle.checkpoint.proofs.Wholes.{last_is_whole}
 use Rattle.kept_rows.specs.Standing.{IsStanding}
-use Rattle.restoring.specs.Resuming.{BeginsWith, CanBeTaken, IsBlank, IsTakenUp, IsInOrder, IsOfHistory, held_state, touched_through}
+use Rattle.restoring.specs.Resuming.{BeginsWith, CanBeTaken, IsBlank, IsTakenUp, IsInOrder, IsOfHistory, VisitsBehind, held_state, touched_through}
 use Rattle.restoring.proofs.Keepable.{history_stands}
 
 -- ---- what is begun with
@@ -49,6 +49,26 @@ unspared_front history (Some point) taken begun b none = at b where
 pub unspared_state : (history : List Entry) (point : Option Point) (taken : ℕ) (begun s : State) → BeginsWith (length history) point taken begun → s ≡ resumed begun taken history
     → taken ≡ 0 → s ≡ state_of history
 unspared_state history point taken begun s begins is none = is ∙ resumed_whole history taken begun (unspared_front history point taken begun begins none)
+
+-- a history begins with one thing alone
+one_beginning : (count : ℕ) (point : Option Point) (taken other : ℕ) (begun another : State) → BeginsWith count point taken begun → BeginsWith count point other another
+    → (taken ≡ other) × (begun ≡ another)
+one_beginning count None taken other begun another b c = (b.none ∙ sym c.none, b.empty ∙ sym c.empty)
+one_beginning count (Some point) taken other begun another b c = at b c where
+  at : (CanBeTaken count point × IsTakenUp point taken begun) ⊎ ((CanBeTaken count point → ⊥) × IsBlank taken begun)
+      → (CanBeTaken count point × IsTakenUp point other another) ⊎ ((CanBeTaken count point → ⊥) × IsBlank other another) → (taken ≡ other) × (begun ≡ another)
+  at (inl up) (inl so) = (up.1.taken_is ∙ sym so.1.taken_is, up.1.state_is ∙ sym so.1.state_is)
+  at (inl up) (inr none) = absurd (none.0 up.0)
+  at (inr none) (inl up) = absurd (none.0 up.0)
+  at (inr none) (inr so) = (none.1.none ∙ sym so.1.none, none.1.empty ∙ sym so.1.empty)
+
+-- so the visits of the entries behind those that were taken are bounded, whatever it is said to begin with
+pub visits_behind : (history : List Entry) (point : Option Point) (taken : ℕ) (begun : State) (before now : ℕ) → BeginsWith (length history) point taken begun
+    → now ≤ before + touched_through begun (drop taken history) → VisitsBehind point history before now
+visits_behind history point taken begun before now begins within other another so =
+    let same = one_beginning (length history) point taken other begun another begins so in
+    subst (λ n. now ≤ before + touched_through another (drop n history)) same.0
+    (subst (λ s. now ≤ before + touched_through s (drop taken history)) same.1 within)
 
 -- a checkpoint of a history of admitted entries is taken up, unless it is of none
 pub taken_up : (history : List Entry) (point : Point) (taken : ℕ) (begun : State) → All IsAdmitted history → point.entries ≤ length history

@@ -13,6 +13,7 @@ use Rattle.checkpoint.specs.Format.{part_bytes, ties_of}
 use Rattle.checkpoint.specs.Parts.{IsProperKey, IsProperTie, IsKeptRow, ArePartsOf}
 use Rattle.checkpoint.specs.Points.{half_checkpoint}
 use Rattle.checkpoint.specs.declared.part.Part.TheVariants.{Rows, End}
+use Rattle.restoring.specs.declared.writing.Draft.{Draft}
 
 -- a row, and its class
 abbrev pub ClassRow : Type 0
@@ -47,9 +48,22 @@ pub record IsDraft (rows : List ClassRow) (whole : List (List ℕ)) (filling : L
   pub fit : All IsPayload whole
   pub short : length filling ≤ LARGEST_PAYLOAD
 
+-- a draft stays one of whatever rows it is
+abbrev pub StaysDraft : Draft → Draft → Type 0
+StaysDraft old new = (rows : List ClassRow) → IsDraft rows old.whole.items old.filling.items → IsDraft rows new.whole.items new.filling.items
+
+-- a draft of whatever rows has these behind them too
+abbrev pub GainsRows : List ClassRow → Draft → Draft → Type 0
+GainsRows more old new = (rows : List ClassRow) → IsDraft rows old.whole.items old.filling.items → IsDraft (rows ++ more) new.whole.items new.filling.items
+
 -- a whole checkpoint of these rows, in payloads that a log can take
 pub record IsWritten (entries : ℕ) (rows : List ClassRow) (payloads : List (List ℕ)) : Type 0 where
   pub chunks : List (List KeptRow)
   pub rows_are : map class_row_of (flat_map (λ chunk. chunk) chunks) ≡ rows
   pub are : ArePartsOf payloads (half_checkpoint chunks ++ End entries (length rows) ∷ [])
   pub fit : All IsPayload payloads
+
+-- a draft is ended as a checkpoint of whatever rows it is, where there are so many, behind so many entries
+abbrev pub EndsDraft : ℕ → ℕ → Draft → List (List ℕ) → Type 0
+EndsDraft entries count draft payloads =
+    (rows : List ClassRow) → IsDraft rows draft.whole.items draft.filling.items → length rows ≡ count → IsWritten entries rows payloads

@@ -10,6 +10,8 @@ use Rattle.marc_types.specs.declared.field.Leader.{Leader}
 use Rattle.numbering.specs.declared.seat.Seat.{Seat}
 use Rattle.catalogue_rules.specs.State.{KeptField, KeptRecord, Row, State, fields_of, new_field, rows_of}
 use Rattle.catalogue_rules.specs.Store.{with_rows}
+use Rattle.catalogue_tables.specs.Seam.{place_at}
+use Rattle.linking_laws.specs.Partway.{swapped}
 use Rattle.linked_store.specs.Linked.{Linked, record_at}
 
 -- the key stands behind all others of its class
@@ -32,3 +34,7 @@ pub record IsThere (seat : Seat) (leader : Leader) (fields : List Field) (x : Li
   pub there : record_at seat.class seat.number x ≡ Some row
   pub leader_is : row.leader ≡ leader
   pub fields_are : fields_of row ≡ fields
+
+-- at a seat stands this field now, and elsewhere what stood there
+abbrev pub IsSwapped : Seat → KeptField → Linked → Linked → Type 0
+IsSwapped seat h old new = new.state ≡ swapped (place_at old.keys seat) h old.state

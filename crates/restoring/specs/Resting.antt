@@ -1,5 +1,5 @@
 -- How a field rests beside the heading of its authority, or without one. The rules are those of `catalogue_rules`.
-use Rattle.std.specs.Prelude.{◌≡◌, ◌≢◌, ◌&&◌, ◌||◌, Bool, true, false, not, [], Option, Some, None, is_some, unwrap_or}
+use Rattle.std.specs.Prelude.{◌≡◌, ◌≢◌, ◌↔◌, ◌&&◌, ◌||◌, Bool, true, false, not, All, IsTrue, List, [], Option, Some, None, is_some, unwrap_or}
 use Rattle.std.specs.Borrow.{Bor}
 use Rattle.std.specs.Option.{option_copied}
 use Rattle.marc_types.specs.Fields.{subfields_of}
@@ -12,11 +12,16 @@ use Rattle.marc_types.specs.declared.key.Key.{Key}
 use Rattle.heading_fields.specs.Parts.{base_part, is_subdivided}
 use Rattle.heading_fields.specs.Tables.{is_subdividable, kind_of}
 use Rattle.entry_record.specs.Authority.{Linkable, is_kind}
-use Rattle.catalogue_rules.specs.State.{KeptField, new_tie}
+use Rattle.numbering.specs.declared.seat.Seat.{Seat}
+use Rattle.catalogue_rules.specs.State.{KeptField, Row, State, linkable_authorities, new_tie}
+use Rattle.kept_rows.specs.Standing.{DoesRest}
+use Rattle.linking_laws.specs.Middle.{AreAuthoritiesInOrder}
+use Rattle.catalogue_tables.specs.Seam.{HasKey}
 use Rattle.catalogue_tables.specs.declared.choosing.Chosen.{Chosen}
 use Rattle.catalogue_tables.specs.declared.choosing.Chosen.TheVariants.{Link, Ambiguous, Unlinked}
 use Rattle.field_settling.specs.Held.{linked_by}
 use Rattle.linked_store.specs.Holding.{can_be_heading}
+use Rattle.linked_store.specs.Linked.{Linked, field_of}
 
 -- the heading of an authority that fields can be linked to, with its kind
 abbrev pub heading_given : Linkable → Kind × Field
@@ -55,3 +60,17 @@ rests_by (Some (Link number whole)) tie = false
 rests_by (Some Ambiguous) tie = true
 rests_by (Some Unlinked) tie = true
 rests_by None tie = not (is_some tie.awaits)
+
+-- each field of these rows rests among these authorities
+abbrev pub DoRowsRest : List Linkable → Class → List Row → Type 0
+DoRowsRest all class rows = All (λ row. All (DoesRest all class) row.1.fields) rows
+
+-- it is told whether the field rests among the authorities of a state
+abbrev pub TellsRest : Class → KeptField → State → Bool → Type 0
+TellsRest class h s told = IsTrue told ↔ DoesRest (linkable_authorities s) class h
+
+-- the field stands at a seat whose key has a number, and the authorities are in order
+pub record StandsAt (h : KeptField) (seat : Seat) (x : Linked) : Type 0 where
+  pub ordered : AreAuthoritiesInOrder x.state
+  pub known : HasKey x.keys seat
+  pub stands : field_of seat x ≡ Some h

@@ -1,5 +1,5 @@
 -- A catalogue that is resumed from a checkpoint, and gone on with by the entries behind it. The rules are this project's own.
-use Rattle.std.specs.Prelude.{◌≡◌, ◌⊎◌, ℕ, ◌+◌, ◌≤◌, true, List, [], ◌∷◌, length, take, Option, Some, None, IfSome}
+use Rattle.std.specs.Prelude.{◌≡◌, ◌⊎◌, ℕ, ◌+◌, ◌≤◌, true, List, [], ◌∷◌, drop, length, take, Option, Some, None, IfSome}
 use Rattle.marc_types.specs.declared.entry.Entry.{Entry}
 use Rattle.catalogue_rules.specs.State.{State, empty_state}
 use Rattle.catalogue_rules.specs.Settle.{step, arrival_of, state_of}
@@ -57,7 +57,16 @@ pub record IsOfFront (history : List Entry) (point : Point) : Type 0 where
   pub within : point.entries ≤ length history
   pub state_is : held_state point ≡ state_of (take point.entries history)
 
+-- whatever the history begins with, all entries of the checkpoint are taken
+abbrev pub IsTakenUpBy : List Entry → Point → Type 0
+IsTakenUpBy history point = (taken : ℕ) (begun : State) → BeginsWith (length history) (Some point) taken begun → taken ≡ point.entries
+
 -- how many records the commits of entries touch that follow one another from a state
 abbrev pub touched_through : State → List Entry → ℕ
 touched_through s [] = 0
 touched_through s (e ∷ entries) = touched s e + touched_through (step s (arrival_of e)) entries
+
+-- no more records are visited than the entries behind those that were taken touch
+abbrev pub VisitsBehind : Option Point → List Entry → ℕ → ℕ → Type 0
+VisitsBehind point history before now =
+    (taken : ℕ) (begun : State) → BeginsWith (length history) point taken begun → now ≤ before + touched_through begun (drop taken history)

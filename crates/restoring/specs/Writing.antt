@@ -1,5 +1,8 @@
 -- A checkpoint that is written to a log of checkpoints. The rules are this project's own.
 use Rattle.std.specs.Prelude.{◌≡◌, ◌⊎◌, ℕ, ◌+◌, ◌≤◌, List, length, map, Option, Some, Ok}
+use Rattle.marc_types.specs.declared.entry.Entry.{Entry}
+use Rattle.outside.specs.Disk.{DiskView, LeavesOnly}
+use Rattle.catalogue_rules.specs.Settle.{state_of}
 use Rattle.catalogue_rules.specs.State.{State}
 use Rattle.kept_rows.specs.Rows.{state_of_rows}
 use Rattle.commit_journal.specs.Log.{frames_of, version_of, payloads_of}
@@ -47,3 +50,19 @@ pub record HasNewLast (entries : ℕ) (s : State) (log : List ℕ) : Type 0 wher
 -- the last whole checkpoint is the one that was it, or one of that state behind so many entries
 abbrev pub HasOldOrNewLast : ℕ → State → Option Point → List ℕ → Type 0
 HasOldOrNewLast entries s last image = HasLast last image ⊎ HasNewLast entries s image
+
+-- Each image at each moment of a call has the log's frames as they were, or with a whole checkpoint of the history's state behind them.
+abbrev pub LeavesPoint : List Entry → DiskView → DiskView → Type 0
+LeavesPoint history old new =
+    (log : List ℕ) → old.content ≡ Some log → LeavesOnly old new (HasPointOrNot (length history) (state_of history) log)
+
+-- the content has the log's frames, and behind them those of a whole checkpoint of the history's state
+abbrev pub AppendsPoint : List Entry → DiskView → DiskView → Type 0
+AppendsPoint history old new =
+    (log image : List ℕ) → old.content ≡ Some log → new.content ≡ Some image → HasPoint (length history) (state_of history) log image
+
+-- Of a log of checkpoints each image at each moment of a call has the last one that it had, or one of the history's state.
+abbrev pub LeavesLast : List Entry → DiskView → DiskView → Type 0
+LeavesLast history old new =
+    (log : List ℕ) (last : Option Point) → old.content ≡ Some log → HasLast last log
+    → LeavesOnly old new (HasOldOrNewLast (length history) (state_of history) last)

@@ -40,10 +40,22 @@ pub fn from_rows(alloc: Global, rows: Vec<KeptRow>) -> Result<Engine, EngineFaul
     ensures unfit { IfErr result (IsUnfit (state_of_rows rows.items)) }
 {
     a_state_stands_where_its_rows_are_sound();
-    rows_in_order_ascend();
     if !are_sound(alloc, rows.as_slice())? {
         return Err(EngineFault::NotValid);
     }
+    of_sound(alloc, rows)
+}
+
+// The same of rows each of which is sound.
+fn of_sound(alloc: Global, rows: Vec<KeptRow>) -> Result<Engine, EngineFault>
+    requires ordered { are_in_order rows.items ≡ true }
+    requires sound { All (λ r. IsSoundRow r.class (row_of r)) rows.items }
+    ensures state { IfOk result (λ engine. engine ≡ kept_engine (state_of_rows rows.items)) }
+    ensures standing { OnOk result (IsStanding (state_of_rows rows.items)) }
+    ensures unfit { IfErr result (IsUnfit (state_of_rows rows.items)) }
+{
+    a_state_stands_where_its_rows_are_sound();
+    rows_in_order_ascend();
     let store = fed(alloc, rows)?;
     if !each_field_rests(&store, alloc)? {
         return Err(EngineFault::NotValid);

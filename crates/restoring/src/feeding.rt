@@ -5,12 +5,11 @@ ghost use Rattle.marc_types.specs.declared.field.Field.{Field};
 ghost use Rattle.heading_fields.specs.Tables.{is_subdividable};
 ghost use Rattle.entry_record.specs.Identity.{is_deletion};
 ghost use Rattle.catalogue_rules.specs.State.{empty_state, kept_field, new_record, new_tie};
-ghost use Rattle.catalogue_tables.specs.Seam.{HasKey, place_at};
-ghost use Rattle.linking_laws.specs.Partway.{swapped};
+ghost use Rattle.catalogue_tables.specs.Seam.{HasKey};
 ghost use Rattle.linked_store.specs.Linked.{IsAhead, IsNumber, key_of};
 ghost use Rattle.kept_rows.specs.Rows.{are_in_order, row_of, state_of_rows};
 ghost use Rattle.kept_rows.specs.Standing.{IsSoundRow};
-ghost use Rattle.restoring.specs.Feeding.{IsLastKey, IsThere, with_last};
+ghost use Rattle.restoring.specs.Feeding.{IsLastKey, IsSwapped, IsThere, with_last};
 
 use entry_record::Preparation;
 use kept_rows::KeptRow;
@@ -108,7 +107,7 @@ fn put_tie(
     requires whole { (f : Field) → slice_get rec.now.fields seat.field ≡ Some f → tie.whole ≡ true
         → is_subdividable seat.class (tag_of f) ≡ true }
     ensures ok { (f : Field) → slice_get rec.now.fields seat.field ≡ Some f
-        → OnOk result (store.new.state ≡ swapped (place_at store.old.keys seat) (kept_field f tie) store.old.state) }
+        → OnOk result (IsSwapped seat (kept_field f tie) store.old store.new) }
     ensures ahead { OnOk result (IsAhead store.old store.new) }
 {
     rec.fits();

@@ -1,13 +1,12 @@
 //! Laws of checkpoints and the catalogues that begin with them: each is the contract of a function that does nothing.
-ghost use Rattle.std.specs.Prelude.{◌≡◌, ◌≤◌, ℕ, List, length, take, All, Option, Some, IfSome};
+ghost use Rattle.std.specs.Prelude.{ℕ, List, All, Option, IfSome};
 ghost use Rattle.marc_types.specs.declared.entry.Entry.{Entry};
 ghost use Rattle.entry_record.specs.History.{IsAdmitted};
 ghost use Rattle.catalogue_rules.specs.State.{State};
-ghost use Rattle.catalogue_rules.specs.Settle.{state_of};
 ghost use Rattle.commit_journal.specs.declared.frame.Frame.{Frame};
 ghost use Rattle.checkpoint.specs.Points.{IsPointOf};
 ghost use Rattle.checkpoint.specs.declared.point.Point.{Point};
-ghost use Rattle.restoring.specs.Resuming.{BeginsWith, IsInOrder, held_state};
+ghost use Rattle.restoring.specs.Resuming.{IsInOrder, IsOfFront, IsTakenUpBy};
 ghost use Rattle.restoring.specs.Writing.{HasLast, HasNewLast, HasPoint};
 
 /// The last whole checkpoint of a log is in order.
@@ -17,8 +16,7 @@ pub fn a_found_checkpoint_is_in_order()
 
 /// A checkpoint of a front of a history is taken up.
 pub fn a_checkpoint_of_a_front_is_taken_up()
-    ensures { (history : List Entry) (point : Point) (taken : ℕ) (begun : State) → All IsAdmitted history → point.entries ≤ length history
-        → held_state point ≡ state_of (take point.entries history) → BeginsWith (length history) (Some point) taken begun → taken ≡ point.entries }
+    ensures { (history : List Entry) (point : Point) → All IsAdmitted history → IsOfFront history point → IsTakenUpBy history point }
 {}
 
 /// Behind a log of checkpoints a whole checkpoint is the last one.

@@ -13,7 +13,7 @@ ghost use Rattle.catalogue_tables.specs.Seam.{HasKey};
 ghost use Rattle.linking_laws.specs.Middle.{AreAuthoritiesInOrder};
 ghost use Rattle.linked_store.specs.Linked.{field_of};
 ghost use Rattle.commit_stages.specs.Headings.{own_heading};
-ghost use Rattle.restoring.specs.Resting.{CanHave, RestsUnder, is_plain, is_whole_rightly, plain_rests, rests_by, tie_lent};
+ghost use Rattle.restoring.specs.Resting.{CanHave, RestsUnder, StandsAt, TellsRest, is_plain, is_whole_rightly, plain_rests, rests_by, tie_lent};
 
 use crate::authority::linked_heading;
 use catalogue_tables::Chosen;
@@ -81,11 +81,8 @@ fn found_rests(
     seat: Seat,
     found: &FoundField<'_>,
 ) -> Result<bool, NoMemory>
-    requires ordered { AreAuthoritiesInOrder store.now.state }
-    requires known { HasKey store.now.keys seat }
-    requires stands { field_of seat store.now ≡ Some (found_field found.now) }
-    ensures { IfOk result (λ told. IsTrue told
-        ↔ DoesRest (linkable_authorities store.now.state) seat.class (found_field found.now)) }
+    requires { StandsAt (found_field found.now) seat store.now }
+    ensures { IfOk result (TellsRest seat.class (found_field found.now) store.now.state) }
 {
     let (field, tie) = found.parts();
     field_rests(store, alloc, seat, field, tie)
@@ -99,11 +96,8 @@ fn field_rests(
     field: &Field,
     tie: &Tie,
 ) -> Result<bool, NoMemory>
-    requires ordered { AreAuthoritiesInOrder store.now.state }
-    requires known { HasKey store.now.keys seat }
-    requires stands { field_of seat store.now ≡ Some (kept_field field.now tie.now) }
-    ensures { IfOk result (λ told. IsTrue told
-        ↔ DoesRest (linkable_authorities store.now.state) seat.class (kept_field field.now tie.now)) }
+    requires { StandsAt (kept_field field.now tie.now) seat store.now }
+    ensures { IfOk result (TellsRest seat.class (kept_field field.now tie.now) store.now.state) }
 {
     if !is_whole_rightly(seat.class, field.tag(), tie) {
         return Ok(false);
@@ -132,8 +126,7 @@ fn link_rests(
     requires ordered { AreAuthoritiesInOrder store.now.state }
     requires linked { tie.now.key ≡ Some key.now }
     requires whole { is_whole_rightly class (tag_of field.now) tie.now ≡ true }
-    ensures { IfOk result (λ told. IsTrue told
-        ↔ DoesRest (linkable_authorities store.now.state) class (kept_field field.now tie.now)) }
+    ensures { IfOk result (TellsRest class (kept_field field.now tie.now) store.now.state) }
 {
     match linked_heading(store, alloc, key)? {
         Some(heading) => rests_under(alloc, class, field, tie, key, &heading),
@@ -149,13 +142,10 @@ fn choice_rests(
     field: &Field,
     tie: &Tie,
 ) -> Result<bool, NoMemory>
-    requires ordered { AreAuthoritiesInOrder store.now.state }
-    requires known { HasKey store.now.keys seat }
-    requires stands { field_of seat store.now ≡ Some (kept_field field.now tie.now) }
+    requires stands { StandsAt (kept_field field.now tie.now) seat store.now }
     requires unlinked { tie.now.key ≡ None }
     requires whole { is_whole_rightly seat.class (tag_of field.now) tie.now ≡ true }
-    ensures { IfOk result (λ told. IsTrue told
-        ↔ DoesRest (linkable_authorities store.now.state) seat.class (kept_field field.now tie.now)) }
+    ensures { IfOk result (TellsRest seat.class (kept_field field.now tie.now) store.now.state) }
 {
     let chosen = store.as_linked().choose_at(alloc, seat, field, tie)?;
     Ok(rests_by(chosen, tie))

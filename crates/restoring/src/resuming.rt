@@ -1,10 +1,9 @@
 //! A catalogue's state from a checkpoint and the entries behind it.
-ghost use Rattle.std.specs.Prelude.{◌≡◌, ℕ, ◌+◌, ◌≤◌, length, drop, IfSome, IfOk, OnOk};
-ghost use Rattle.catalogue_rules.specs.State.{State};
+ghost use Rattle.std.specs.Prelude.{◌≡◌, ◌+◌, ◌≤◌, IfSome, IfOk, OnOk};
 ghost use Rattle.catalogue_rules.specs.Settle.{state_of};
 ghost use Rattle.checkpoint.specs.Resuming.{gone_on};
 ghost use Rattle.catalogue_core.specs.Engines.{kept_engine};
-ghost use Rattle.restoring.specs.Resuming.{BeginsWith, IsBlank, IsInOrder, IsOfHistory, IsResumed, touched_through};
+ghost use Rattle.restoring.specs.Resuming.{BeginsWith, IsBlank, IsInOrder, IsOfHistory, IsResumed, VisitsBehind, touched_through};
 
 use crate::engine::{EngineFault, from_rows};
 use catalogue_core::Engine;
@@ -94,8 +93,7 @@ pub fn resume<L: Ledger>(
     ensures unspared { IfOk result (λ r. r.taken ≡ 0 → r.engine.state ≡ state_of entries.now) }
 
     // No more records are visited than the entries behind the checkpoint touch.
-    ensures visits { (taken : ℕ) (begun : State) → BeginsWith (length entries.now) point taken begun
-        → steps.new ≤ steps.old + touched_through begun (drop taken entries.now) }
+    ensures visits { VisitsBehind point entries.now steps.old steps.new }
 {
     let begun = begin(alloc, point, entries.len() as u64)?;
     let Restored { mut engine, taken } = begun;

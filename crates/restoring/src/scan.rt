@@ -7,6 +7,7 @@ ghost use Rattle.kept_rows.specs.Standing.{DoesRest};
 ghost use Rattle.linking_laws.specs.Middle.{AreAuthoritiesInOrder};
 ghost use Rattle.linked_store.specs.Linked.{IsNumber, record_at};
 ghost use Rattle.numbered_store.specs.Kept.{kept_record};
+ghost use Rattle.restoring.specs.Resting.{DoRowsRest};
 
 use crate::resting::place_rests;
 use linked_store::ReadableStore;
@@ -33,7 +34,7 @@ fn class_rests(store: &ReadableStore, alloc: Global, class: Class) -> Result<boo
     requires ordered { AreAuthoritiesInOrder store.now.state }
     requires ascends { IsAscending (rows_of class store.now.state) }
     ensures { IfOk result (λ told. IsTrue told
-        ↔ All (λ row. All (DoesRest (linkable_authorities store.now.state) class) row.1.fields) (rows_of class store.now.state)) }
+        ↔ DoRowsRest (linkable_authorities store.now.state) class (rows_of class store.now.state)) }
 {
     let rows = store.rows(alloc, class)?;
     for (key, kept) in rows {

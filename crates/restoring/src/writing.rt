@@ -1,8 +1,7 @@
 //! A checkpoint of a catalogue's state that is appended to a log.
-ghost use Rattle.std.specs.Prelude.{◌≡◌, ℕ, ◌+◌, ◌<◌, ◌≤◌, List, [], ◌∷◌, ◌++◌, length, All, Option, Some, true, false, IsErrOf, IfOk, OnOk, OnErr};
-ghost use Rattle.outside.specs.Disk.{LeavesOnly};
+ghost use Rattle.std.specs.Prelude.{◌≡◌, ◌+◌, ◌<◌, ◌≤◌, [], ◌∷◌, length, All, true, false, IsErrOf, IfOk, OnOk};
 ghost use Rattle.outside.specs.Fault.{HasWriteCause};
-ghost use Rattle.catalogue_rules.specs.State.{Row, rows_of};
+ghost use Rattle.catalogue_rules.specs.State.{rows_of};
 ghost use Rattle.catalogue_rules.specs.Settle.{state_of};
 ghost use Rattle.catalogue_rules.specs.Valid.{IsValid};
 ghost use Rattle.numbered_store.specs.Kept.{kept_record};
@@ -10,9 +9,8 @@ ghost use Rattle.commit_journal.specs.Journal.{Continues, IsDurableLog};
 ghost use Rattle.commit_journal.specs.declared.format.TheConstants.{LARGEST_PAYLOAD};
 ghost use Rattle.checkpoint.specs.Format.{kept_bytes, part_bytes};
 ghost use Rattle.checkpoint.specs.declared.part.Part.TheVariants.{Rows};
-ghost use Rattle.checkpoint.specs.declared.point.Point.{Point as AnyPoint};
-ghost use Rattle.restoring.specs.Drafts.{ClassRow, CanBeKept, IsDraft, IsWritten, of_class, rows_in_turn};
-ghost use Rattle.restoring.specs.Writing.{HasLast, HasOldOrNewLast, HasPoint, HasPointOrNot};
+ghost use Rattle.restoring.specs.Drafts.{CanBeKept, EndsDraft, GainsRows, IsDraft, IsWritten, StaysDraft, of_class, rows_in_turn};
+ghost use Rattle.restoring.specs.Writing.{AppendsPoint, LeavesLast, LeavesPoint};
 
 use catalogue_core::{Catalogue, Engine};
 use checkpoint::{append_row, begin_payload, begin_rows, end_payload};
@@ -66,8 +64,7 @@ impl Draft {
     #[tactic(auto, using(crate::proofs::Drafting::closed))]
     fn close(&mut self, alloc: Global) -> Result<(), NoMemory>
         requires some { 1 < length self.old.filling.items }
-        ensures same { OnOk result ((rows : List ClassRow) → IsDraft rows self.old.whole.items self.old.filling.items
-            → IsDraft rows self.new.whole.items self.new.filling.items) }
+        ensures same { OnOk result (StaysDraft self.old self.new) }
         ensures filling { OnOk result (self.new.filling.items ≡ part_bytes (Rows [])) }
     {
         let next = begin_rows(alloc)?;
@@ -80,8 +77,7 @@ impl Draft {
     #[tactic(auto, using(crate::proofs::Drafting::none_filling))]
     fn make_room(&mut self, alloc: Global, len: usize) -> Result<(), NoMemory>
         requires short { len ≤ 1474636 }
-        ensures same { OnOk result ((rows : List ClassRow) → IsDraft rows self.old.whole.items self.old.filling.items
-            → IsDraft rows self.new.whole.items self.new.filling.items) }
+        ensures same { OnOk result (StaysDraft self.old self.new) }
         ensures room { OnOk result (length self.new.filling.items + len ≤ LARGEST_PAYLOAD) }
     {
         if self.filling.len() > LARGEST_PAYLOAD - len {
@@ -100,8 +96,7 @@ impl Draft {
         kept: &StoredRecord,
     ) -> Result<(), NoMemory>
         requires { CanBeKept (key.now, kept_record kept.now) }
-        ensures { OnOk result ((rows : List ClassRow) → IsDraft rows self.old.whole.items self.old.filling.items
-            → IsDraft (rows ++ (class, (key.now, kept_record kept.now)) ∷ []) self.new.whole.items self.new.filling.items) }
+        ensures { OnOk result (GainsRows ((class, (key.now, kept_record kept.now)) ∷ []) self.old self.new) }
     {
         // its texts are read as they are written
         kept.each_text_is_utf8();
@@ -114,8 +109,7 @@ impl Draft {
     /// Closes the payload of kept records, if it has one.
     #[tactic(auto, using(crate::proofs::Drafting::none_filling))]
     fn close_last(&mut self, alloc: Global) -> Result<(), NoMemory>
-        ensures same { OnOk result ((rows : List ClassRow) → IsDraft rows self.old.whole.items self.old.filling.items
-            → IsDraft rows self.new.whole.items self.new.filling.items) }
+        ensures same { OnOk result (StaysDraft self.old self.new) }
         ensures none { OnOk result (length self.new.filling.items ≤ 1) }
     {
         if self.filling.len() > 1 {
@@ -127,8 +121,7 @@ impl Draft {
     /// Ends the checkpoint behind so many entries.
     #[tactic(auto, using(crate::proofs::Drafting::ended))]
     fn end(self, alloc: Global, entries: u64, count: u64) -> Result<Vec<Bytes>, NoMemory>
-        ensures { IfOk result (λ payloads. (rows : List ClassRow) → IsDraft rows self.whole.items self.filling.items → length rows ≡ count
-            → IsWritten entries rows payloads.items) }
+        ensures { IfOk result (λ payloads. EndsDraft entries count self payloads.items) }
     {
         let mut draft = self;
         draft.close_last(alloc)?;
@@ -150,8 +143,7 @@ fn add_class(
     class: Class,
 ) -> Result<(), NoMemory>
     requires { All CanBeKept (rows_of class engine.now.state) }
-    ensures { OnOk result ((rows : List ClassRow) → IsDraft rows draft.old.whole.items draft.old.filling.items
-        → IsDraft (rows ++ of_class class (rows_of class engine.now.state)) draft.new.whole.items draft.new.filling.items) }
+    ensures { OnOk result (GainsRows (of_class class (rows_of class engine.now.state)) draft.old draft.new) }
 {
     for (key, kept) in engine.rows(alloc, class)? {
         draft.add(alloc, class, key, kept)?;
@@ -187,15 +179,12 @@ pub fn write_point<D: Disk>(
     requires newest { point.old.version ≡ Version.Two }
 
     // Each image at each moment of the call has the log's frames as they were, or with a whole checkpoint behind them; after Ok it has it.
-    ensures crash { (log : List ℕ) → (D.seen point.old.disk).content ≡ Some log → LeavesOnly (D.seen point.old.disk) (D.seen point.new.disk)
-        (HasPointOrNot (length core.now.history) (state_of core.now.history) log) }
-    ensures appended { OnOk result ((b c : List ℕ) → (D.seen point.old.disk).content ≡ Some b → (D.seen point.new.disk).content ≡ Some c
-        → HasPoint (length core.now.history) (state_of core.now.history) b c) }
+    ensures crash { LeavesPoint core.now.history (D.seen point.old.disk) (D.seen point.new.disk) }
+    ensures appended { OnOk result (AppendsPoint core.now.history (D.seen point.old.disk) (D.seen point.new.disk)) }
     ensures settled { OnOk result (IsDurableLog point.new.place 2 (D.seen point.new.disk)) }
 
     // So of a log of checkpoints each image has the last one that it had, or this one.
-    ensures last { (log : List ℕ) (last : Option AnyPoint) → (D.seen point.old.disk).content ≡ Some log → HasLast last log
-        → LeavesOnly (D.seen point.old.disk) (D.seen point.new.disk) (HasOldOrNewLast (length core.now.history) (state_of core.now.history) last) }
+    ensures last { LeavesLast core.now.history (D.seen point.old.disk) (D.seen point.new.disk) }
 
     // Want of memory comes before the first byte is written, and changes nothing.
     ensures memory { IsErrOf result WriteFault.NoMemory → point.new ≡ point.old }

@@ -8,7 +8,7 @@ use Rattle.outside.specs.Sink.{WritesFront}
 use Rattle.entry_record.specs.History.{IsWithin}
 use Rattle.console_lines.specs.Ends.{Outcome, IsTold, TellsNoFault, console_unwritten}
 use Rattle.console_lines.specs.declared.end.End.{End}
-use Rattle.console_lines.specs.declared.end.End.TheVariants.{Done, Refused, Unwritten, Told}
+use Rattle.console_lines.specs.declared.end.End.TheVariants.{Done, Refused, Unwritten, Told, BroughtInPart, Differ}
 use Rattle.console_lines.specs.declared.end.Unwritten.TheVariants.{Out, Side, Pages, Console}
 use Rattle.console_lines.specs.declared.fault.Fault.{Fault}
 use Rattle.console_lines.specs.declared.fault.Fault.TheVariants.{Usage, Input, Device, NotAJournal, Full, Memory, OldVersion, OtherHistory}
@@ -38,6 +38,8 @@ EndsSalvaging (Told Full) = Unit {0}
 EndsSalvaging (Told Memory) = Unit {0}
 EndsSalvaging (Told OldVersion) = Unit {0}
 EndsSalvaging (Told OtherHistory) = Unit {0}
+EndsSalvaging BroughtInPart = ⊥
+EndsSalvaging Differ = ⊥
 
 -- Why what is sound of a journal is not brought into the log of that name: it is nothing, or passes the limits, and then nothing is opened
 -- to be written; or the log doesn't take it.

@@ -12,6 +12,11 @@ module _ {room : ℕ} where
   pub sure_empty : (made : SureRoom room) → ((n : List ℕ) → kept_under made n ≡ None) → (n : List ℕ) → kept_sort (kept_under made n) ≡ None
   sure_empty made empty n = ap kept_sort (empty n)
 
+  -- a room with other limits has the same names open
+  pub sure_sized : (old new : SureRoom room) → ((n : List ℕ) → kept_under new n ≡ kept_under old n)
+      → ((n : List ℕ) → kept_sort (kept_under old n) ≡ None) → (n : List ℕ) → kept_sort (kept_under new n) ≡ None
+  sure_sized old new same was n = ap kept_sort (same n) ∙ was n
+
   closed_at : (b : Bool) (old new : SureRoom room) (name n : List ℕ) → (b ≡ true → n ≡ name) → (n ≡ name → b ≡ true)
       → kept_sort (kept_under new name) ≡ None → (n ≢ name → kept_under new n ≡ kept_under old n) → kept_sort (kept_under old n) ≡ None
       → kept_sort (kept_under new n) ≡ None

@@ -1,5 +1,7 @@
 //! What a command is about to do with its files, as the room is told before anything is opened.
-use command_words::{AloneRequest, Look, Outputs, Request, Unasked};
+use command_words::{
+    AloneRequest, HeldLook, Look, Outputs, PartsRequest, PointRequest, Request, Unasked, UnheldLook,
+};
 use commit_journal::LARGEST_APPEND;
 use outside_real::{Counts, Intent};
 use std::alloc::Global;
@@ -64,12 +66,21 @@ fn outputs_of<'a>(asked: &Request<'a>) -> [Option<&'a str>; 3] {
 
 fn two_outputs_of<'a>(asked: &AloneRequest<'a>) -> [Option<&'a str>; 3] {
     match asked {
-        AloneRequest::Holdings(wanted) | AloneRequest::ReadHoldings(wanted) => {
+        AloneRequest::Held(HeldLook::Holdings(wanted))
+        | AloneRequest::Unheld(UnheldLook::Holdings(wanted)) => {
             [Some(wanted.out), Some(wanted.rest), None]
         }
-        AloneRequest::Worklist { list, page, .. } | AloneRequest::ReadWorklist { list, page, .. } =>
-            [Some(*list), Some(*page), None],
-        AloneRequest::QuickReport { out, report, .. } => [Some(*out), Some(*report), None],
+        AloneRequest::Held(HeldLook::Worklist { list, page, .. })
+        | AloneRequest::Unheld(UnheldLook::Worklist { list, page, .. }) => [
+            Some(*list),
+            Some(*page),
+            None,
+        ],
+        AloneRequest::Point(PointRequest::QuickReport { out, report, .. }) => [
+            Some(*out),
+            Some(*report),
+            None,
+        ],
         _ => [None, None, None],
     }
 }
@@ -77,15 +88,15 @@ fn two_outputs_of<'a>(asked: &AloneRequest<'a>) -> [Option<&'a str>; 3] {
 /// The journal that a command only reads, where it opens one as such.
 fn journal_of<'a>(asked: &AloneRequest<'a>) -> Option<&'a str> {
     match asked {
-        AloneRequest::Export { journal, .. }
-        | AloneRequest::Report { journal, .. }
-        | AloneRequest::Matches { journal, .. }
-        | AloneRequest::Headings { journal, .. }
-        | AloneRequest::Worklist { journal, .. }
-        | AloneRequest::Checkpoint { journal, .. }
-        | AloneRequest::Quick { journal, .. }
-        | AloneRequest::QuickReport { journal, .. } => Some(*journal),
-        AloneRequest::Holdings(wanted) => Some(wanted.journal),
+        AloneRequest::Held(HeldLook::Export { journal, .. })
+        | AloneRequest::Held(HeldLook::Report { journal, .. })
+        | AloneRequest::Held(HeldLook::Matches { journal, .. })
+        | AloneRequest::Held(HeldLook::Headings { journal, .. })
+        | AloneRequest::Held(HeldLook::Worklist { journal, .. })
+        | AloneRequest::Point(PointRequest::Checkpoint { journal, .. })
+        | AloneRequest::Point(PointRequest::Quick { journal, .. })
+        | AloneRequest::Point(PointRequest::QuickReport { journal, .. }) => Some(*journal),
+        AloneRequest::Held(HeldLook::Holdings(wanted)) => Some(wanted.journal),
         _ => None,
     }
 }
@@ -93,9 +104,9 @@ fn journal_of<'a>(asked: &AloneRequest<'a>) -> Option<&'a str> {
 /// The log of checkpoints: one append to it may be of any length.
 fn points_of<'a>(asked: &AloneRequest<'a>) -> Option<&'a str> {
     match asked {
-        AloneRequest::Checkpoint { point, .. }
-        | AloneRequest::Quick { point, .. }
-        | AloneRequest::QuickReport { point, .. } => Some(*point),
+        AloneRequest::Point(PointRequest::Checkpoint { point, .. })
+        | AloneRequest::Point(PointRequest::Quick { point, .. })
+        | AloneRequest::Point(PointRequest::QuickReport { point, .. }) => Some(*point),
         _ => None,
     }
 }
@@ -106,24 +117,15 @@ fn judged_of<'a>(asked: &'a AloneRequest<'_>) -> Option<&'a str> {
         AloneRequest::Pass { library, .. } | AloneRequest::Refused { library, .. } => Some(
             library.file.as_str(),
         ),
-        AloneRequest::Holdings(wanted) | AloneRequest::ReadHoldings(wanted) => Some(
-            wanted.library.file.as_str(),
-        ),
+        AloneRequest::Held(HeldLook::Holdings(wanted))
+        | AloneRequest::Unheld(UnheldLook::Holdings(wanted)) => Some(wanted.library.file.as_str()),
         _ => None,
     }
 }
 
 /// Whether `reading` can stand before a command.
 fn has_reading(asked: &AloneRequest<'_>) -> bool {
-    matches!(
-        asked,
-        AloneRequest::Export { .. }
-            | AloneRequest::Report { .. }
-            | AloneRequest::Matches { .. }
-            | AloneRequest::Holdings(_)
-            | AloneRequest::Headings { .. }
-            | AloneRequest::Worklist { .. }
-    )
+    matches!(asked, AloneRequest::Held(_))
 }
 
 /// Whether a command looks at its inputs without holding them.
@@ -131,37 +133,40 @@ fn looks(asked: &AloneRequest<'_>) -> bool {
     matches!(
         asked,
         AloneRequest::Verify { .. }
-            | AloneRequest::VerifyPoint { .. }
             | AloneRequest::VerifyDigest { .. }
-            | AloneRequest::Read { .. }
-            | AloneRequest::ReadHoldings(_)
-            | AloneRequest::ReadWorklist { .. }
+            | AloneRequest::Point(PointRequest::Verify { .. })
+            | AloneRequest::Unheld(_)
     )
 }
 
 /// What is told of how much a command wrote.
 fn counts_of(asked: &AloneRequest<'_>) -> Counts {
     match asked {
-        AloneRequest::Export { code: Some(_), .. }
-        | AloneRequest::Read {
-            look: Look::Export(Some(_)),
-            ..
-        } => Counts::RecordsOfCode,
-        AloneRequest::Export { .. }
-        | AloneRequest::Holdings(_)
-        | AloneRequest::ReadHoldings(_)
-        | AloneRequest::Quick { .. }
-        | AloneRequest::QuickReport { .. }
-        | AloneRequest::Read {
-            look: Look::Export(None),
-            ..
-        } => Counts::Records,
-        AloneRequest::Report { .. }
-        | AloneRequest::Matches { .. }
-        | AloneRequest::Headings { .. }
-        | AloneRequest::Worklist { .. }
-        | AloneRequest::ReadWorklist { .. }
-        | AloneRequest::Read { .. } => Counts::Lines,
+        AloneRequest::Held(HeldLook::Export { code: Some(_), .. })
+        | AloneRequest::Unheld(
+            UnheldLook::Read {
+                look: Look::Export(Some(_)),
+                ..
+            },
+        ) => Counts::RecordsOfCode,
+        AloneRequest::Held(HeldLook::Export { .. })
+        | AloneRequest::Held(HeldLook::Holdings(_))
+        | AloneRequest::Unheld(UnheldLook::Holdings(_))
+        | AloneRequest::Point(PointRequest::Quick { .. })
+        | AloneRequest::Point(PointRequest::QuickReport { .. })
+        | AloneRequest::Parts(PartsRequest::Join { .. })
+        | AloneRequest::Unheld(
+            UnheldLook::Read {
+                look: Look::Export(None),
+                ..
+            },
+        ) => Counts::Records,
+        AloneRequest::Held(HeldLook::Report { .. })
+        | AloneRequest::Held(HeldLook::Matches { .. })
+        | AloneRequest::Held(HeldLook::Headings { .. })
+        | AloneRequest::Held(HeldLook::Worklist { .. })
+        | AloneRequest::Unheld(UnheldLook::Worklist { .. })
+        | AloneRequest::Unheld(UnheldLook::Read { .. }) => Counts::Lines,
         _ => Counts::Nothing,
     }
 }
@@ -169,10 +174,9 @@ fn counts_of(asked: &AloneRequest<'_>) -> Counts {
 /// The output of which nothing is told, since it is of another sort than the other.
 fn uncounted_of<'a>(asked: &AloneRequest<'a>) -> Option<&'a str> {
     match asked {
-        AloneRequest::QuickReport { report, .. } => Some(*report),
-        AloneRequest::Worklist { page, .. } | AloneRequest::ReadWorklist { page, .. } => Some(
-            *page,
-        ),
+        AloneRequest::Point(PointRequest::QuickReport { report, .. }) => Some(*report),
+        AloneRequest::Held(HeldLook::Worklist { page, .. })
+        | AloneRequest::Unheld(UnheldLook::Worklist { page, .. }) => Some(*page),
         _ => None,
     }
 }

@@ -12,7 +12,7 @@ use Rattle.command_words.specs.declared.asked.BrowseRequest.{BrowseRequest}
 use Rattle.command_words.specs.declared.asked.LoadRequest.{LoadRequest}
 use Rattle.command_words.specs.declared.asked.Outputs.{Outputs}
 use Rattle.command_words.specs.declared.asked.Request.TheVariants as request
-use Rattle.command_words.specs.Command.{Command, Pass, Run, Load, Browse, Export, Report, Make, Verify, VerifyPoint, VerifyDigest, Matches, Holdings, Headings, Worklist, Migrate, Salvage, Checkpoint, Quick, QuickReport, Read, ReadHoldings, ReadWorklist, Refused as RefusedOf, Help, Version, command_of, libraries_of, file_count, names_of, AreNames, IsBounded, ReadsFiles}
+use Rattle.command_words.specs.Command.{Command, Pass, Run, Load, Browse, Export, Report, Make, Verify, VerifyPoint, VerifyDigest, Matches, Holdings, Headings, Worklist, Migrate, Salvage, Checkpoint, Quick, QuickReport, Read, ReadHoldings, ReadWorklist, Refused as RefusedOf, Totals as TotalsOf, Join, Split, Help, Version, command_of, libraries_of, file_count, names_of, AreNames, IsBounded, ReadsFiles}
 use Rattle.command_words.specs.Asked.{alone_asked, browse_asked, load_asked, loading_of, AsksFor}
 use Rattle.console_lines.specs.Ends.{Outcome, IsTold}
 use Rattle.console_lines.specs.declared.end.End.TheVariants.{Told}
@@ -25,7 +25,7 @@ use Rattle.plain_commands.specs.GivingBack.{refused_due}
 use Rattle.loading_commands.specs.Outcomes.{IsLoadingFault, NotBegun, Unopened}
 use Rattle.loading_commands.specs.Inputs.{AreLoadable, IsProper}
 use Rattle.union_top.specs.Begun.{IsAskedToBrowse}
-use Rattle.union_top.specs.Commands.{Ends, CarriesOut}
+use Rattle.union_top.specs.Commands.{touched, Ends, CarriesOut}
 use Rattle.loading_commands.specs.Loading.{Loads, Runs, EndsWithOutputs, EndsLoading}
 use Rattle.loading_commands.specs.Runs as runs
 use Rattle.browsing_commands.specs.Browses.{EndsBrowse, Browses}
@@ -35,6 +35,7 @@ use Rattle.memory_files.specs.declared.reading.ReadFault.TheVariants as read
 use Rattle.reading_commands.proofs.Attached.{unheld_unread}
 use Rattle.holdings_command.proofs.Endings.{attaches_unopened}
 use Rattle.loading_commands.proofs.Ended.{loads_failed, runs_failed, no_memory}
+use Rattle.union_top.proofs.Joined.{splits_unasked}
 
 -- what some words ask for is what the request asks for that it is
 pub asked_as : (words : List (List ℕ)) (asked : AloneRequest) {is : AloneRequest} → AsksFor words (request.Alone asked) → asked ≡ is → AsksFor words (request.Alone is)
@@ -42,7 +43,7 @@ asked_as words asked {is} asks same = subst (λ r. AsksFor words (request.Alone 
 
 -- and it is carried out as that one is
 pub carries : (words : List (List ℕ)) (asked : AloneRequest) {is : AloneRequest} {o : Outcome} → asked ≡ is → ((name : List ℕ) → o.new.open_as name ≡ None)
-    → SameBut o.old o.new (names_of (alone_asked is)) → Ends words (alone_asked is) o → o.end ≢ Told fault.Usage → CarriesOut words (alone_asked asked) o
+    → SameBut o.old o.new (touched (alone_asked is)) → Ends words (alone_asked is) o → o.end ≢ Told fault.Usage → CarriesOut words (alone_asked asked) o
 carries words asked {is} {o} same closed apart ends no_usage =
     subst (λ r. CarriesOut words (alone_asked r) o) (sym same) (record { closed = closed; apart = apart; ends = ends; no_usage = no_usage })
 
@@ -149,12 +150,21 @@ loading_ends words asked o asks did = decided asked.outputs did
     decided (Some outputs) r =
         (subst (λ ls. Runs ls asked.journal.now outputs.out.now outputs.report.now o) asks.libraries r, λ usage. (r.told fault.Usage usage).1 refl)
 
+-- what it may change are its names
+touched_loading : (asked : LoadRequest) → touched (load_asked asked) ≡ names_of (load_asked asked)
+touched_loading asked = decided asked.outputs
+  where
+    decided : (outputs : Option Outputs) → touched (loading_of asked.journal.now (length asked.libraries) outputs)
+        ≡ names_of (loading_of asked.journal.now (length asked.libraries) outputs)
+    decided None = refl
+    decided (Some outputs) = refl
+
 -- so it is carried out
 pub loading_carried : (words : List (List ℕ)) (asked : LoadRequest) (o : Outcome) → AsksFor words (request.Load asked) → ((name : List ℕ) → o.new.open_as name ≡ None)
     → SameBut o.old o.new (names_of (load_asked asked)) → EndsLoading asked o → CarriesOut words (load_asked asked) o
 loading_carried words asked o asks closed apart did =
     let both = loading_ends words asked o asks did in
-    record { closed = closed; apart = apart; ends = both.0; no_usage = both.1 }
+    record { closed = closed; apart = subst (SameBut o.old o.new) (sym (touched_loading asked)) apart; ends = both.0; no_usage = both.1 }
 
 module _ (o : Outcome) (told : o.end ≡ Told fault.Memory) (tells : IsTold fault.Memory o) (stays : SameBut o.old o.new [])
     (free : (name : List ℕ) → o.old.open_as name ≡ None) where
@@ -197,6 +207,9 @@ module _ (o : Outcome) (told : o.end ≡ Told fault.Memory) (tells : IsTold faul
       unheld_unread journal out rest library code o read.NoMemory fault.Memory refl told tells stays (λ same. cc)
   unasked words (ReadWorklist journal list page code) takes = absurd takes
   unasked words (RefusedOf out) takes = λ library is. passes_told refused_due library out o fault.Memory told tells tt stays (λ input. cc) (λ full. cc)
+  unasked words (TotalsOf first reports) takes = absurd takes
+  unasked words (Join out exports) takes = absurd takes
+  unasked words (Split count prefix files) takes = splits_unasked count prefix (libraries_of words) o told tells stays
   unasked words (Help topic) takes = absurd takes
   unasked words Version takes = absurd takes
 
@@ -204,7 +217,7 @@ module _ (o : Outcome) (told : o.end ≡ Told fault.Memory) (tells : IsTold faul
   pub carried_unasked : (words : List (List ℕ)) (command : Command) → ReadsFiles command → CarriesOut words command o
   carried_unasked words command takes = record {
     closed = closed;
-    apart = same_but_none o.old o.new (names_of command) stays;
+    apart = same_but_none o.old o.new (touched command) stays;
     ends = unasked words command takes;
     no_usage = λ usage. let no : Told fault.Memory ≡ Told fault.Usage = sym told ∙ usage in cc;
   }

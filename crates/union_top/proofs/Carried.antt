@@ -2,7 +2,7 @@
 use Rattle.std.proofs.Common.{◌≡◌, ◌≢◌, ◌≤◌, ◌⊎◌, ◌∙◌, ℕ, true, List, [], Option, Some, None, refl, sym, ap, subst}
 use Rattle.outside.specs.Room.{RoomView, SameBut, IsPromiseKept}
 use Rattle.outside.proofs.Rooms.{same_but_itself}
-use Rattle.command_words.specs.Command.{Command, command_of, names_of}
+use Rattle.command_words.specs.Command.{Command, command_of}
 use Rattle.command_words.specs.Asked.{IsUnasked}
 use Rattle.command_words.specs.declared.asked.Unasked.{Unasked}
 use Rattle.command_words.specs.declared.asked.Unasked.TheVariants as unasked
@@ -11,7 +11,7 @@ use Rattle.console_lines.specs.declared.end.End.{End}
 use Rattle.console_lines.specs.declared.end.End.TheVariants.{Told}
 use Rattle.console_lines.specs.declared.fault.Fault.{Fault}
 use Rattle.console_lines.specs.declared.fault.Fault.TheVariants.{Usage}
-use Rattle.union_top.specs.Commands.{Ends, CarriesOut}
+use Rattle.union_top.specs.Commands.{touched, Ends, CarriesOut}
 use Rattle.union_top.specs.Complete.{Around, CountsStayed, IsUnhindered}
 use Rattle.union_top.specs.Misfits.{RefusesMisfits}
 use Rattle.union_top.specs.Sure.{IsSure}
@@ -35,7 +35,7 @@ module _ (words : List (List ℕ)) (status : ℕ) (a : Around) (o : End → Outc
     misfits = λ command asks tells s. let both : None ≡ Some command = sym none ∙ asks in cc;
   }
 
-  pub command_carried : (asked : Command) → command_of words ≡ Some asked → end ≢ Told Usage → SameBut a.old a.new (names_of asked)
+  pub command_carried : (asked : Command) → command_of words ≡ Some asked → end ≢ Told Usage → SameBut a.old a.new (touched asked)
       → Ends words asked (o end)
       → ((command : Command) → Ends words command (o end) → IsUnhindered words command a → (end_status end ≤ 1) ⊎ (end_status end ≡ 8))
       → ((command : Command) → Ends words command (o end) → IsSure words command a → (end_status end ≤ 1) ⊎ (end_status end ≡ 8))
@@ -46,7 +46,7 @@ module _ (words : List (List ℕ)) (status : ℕ) (a : Around) (o : End → Outc
     usage = (λ two. absurd (other (two_is_usage end (sym status_is ∙ two))), λ none. let both : None ≡ Some asked = sym none ∙ asks in cc);
     unchanged = λ two. absurd (other (two_is_usage end (sym status_is ∙ two)));
     usage_told = λ two. absurd (other (two_is_usage end (sym status_is ∙ two)));
-    apart = λ command is. subst (λ c. SameBut a.old a.new (names_of c)) (same_command asked command (sym asks ∙ is)) apart;
+    apart = λ command is. subst (λ c. SameBut a.old a.new (touched c)) (same_command asked command (sym asks ∙ is)) apart;
     ends = λ command is. (end, status_is, ends_of command is);
     complete = λ command is u. subst (λ s. (s ≤ 1) ⊎ (s ≡ 8)) (sym status_is) (well command (ends_of command is) u);
     sure = λ command is u. subst (λ s. (s ≤ 1) ⊎ (s ≡ 8)) (sym status_is) (sure command (ends_of command is) u);

@@ -3,10 +3,10 @@ use Rattle.std.proofs.Common.{◌≡◌, ◌⊎◌, inl, inr, ℕ, zero, suc, �
 use Rattle.std.specs.Prelude.{All, slice_get}
 use Rattle.std.proofs.lemmas.List.Elements.{All-head, All-tail}
 use Rattle.command_words.specs.declared.library.Library.{Library}
-use Rattle.command_words.specs.Command.{Command, Pass, Run, Load, Browse, Export, Report, Make, Verify, VerifyPoint, VerifyDigest, Matches, Holdings, Headings, Worklist, Migrate, Salvage, Checkpoint, Quick, QuickReport, Read, ReadHoldings, ReadWorklist, Refused as RefusedOf, Help, Version, libraries_of}
+use Rattle.command_words.specs.Command.{Command, Pass, Run, Load, Browse, Export, Report, Make, Verify, VerifyPoint, VerifyDigest, Matches, Holdings, Headings, Worklist, Migrate, Salvage, Checkpoint, Quick, QuickReport, Read, ReadHoldings, ReadWorklist, Refused as RefusedOf, Totals as TotalsOf, Join, Split, Help, Version, libraries_of}
 use Rattle.console_lines.specs.Ends.{Outcome, end_status}
 use Rattle.console_lines.specs.declared.end.End.{End}
-use Rattle.console_lines.specs.declared.end.End.TheVariants.{Done, Refused, Unwritten, Told}
+use Rattle.console_lines.specs.declared.end.End.TheVariants.{Done, Refused, Unwritten, Told, BroughtInPart, Differ}
 use Rattle.console_lines.specs.declared.fault.Fault.TheVariants as fault
 use Rattle.archive_commands.specs.Reads as reading
 use Rattle.archive_commands.specs.Telling.{matches_due}
@@ -23,6 +23,7 @@ use Rattle.union_top.proofs.ListedUnheld.{lists_unheld_well}
 use Rattle.union_top.proofs.Fitting.{EndsWell, well_status, passes_well, makes_well, reads_well, attaches_well, loads_well, runs_well}
 use Rattle.union_top.proofs.Looking.{looks_well}
 use Rattle.union_top.proofs.Unheld.{unheld_well}
+use Rattle.union_top.proofs.Joined.{totals_well, joins_well, splits_well}
 use Rattle.union_top.proofs.Untroubled.{verify_well, digest_well, tells_well}
 use Rattle.union_top.proofs.Migrated.{migrates_well}
 use Rattle.union_top.proofs.Salvaged.{salvages_well}
@@ -120,6 +121,11 @@ module _ (o : Outcome) where
       let p = ends u.fits.library u.fits.named in
       passes_well o refused_due (libraries_of words) out ends u.fits (λ is. u.stayed.1 (p.out_cause is)) (λ is. u.stayed.2 (p.console_cause is))
       (λ is. one_stayed (around_of o) (libraries_of words) u.stayed.0 u.fits.library u.fits.named (p.input is))
+  ends_well words (TotalsOf first reports) t u =
+      totals_well o first reports t u.fits (λ is. u.stayed.1 (t.console_cause is)) (λ is. u.stayed.0 (t.input is))
+  ends_well words (Join out exports) j u = joins_well o out exports j u.fits (λ is. u.stayed.1 (j.cause is)) (λ is. u.stayed.0 (j.input is))
+  ends_well words (Split count prefix files) s u =
+      splits_well o count prefix (libraries_of words) s u.fits (none_failed (around_of o) (libraries_of words) u.stayed.0) u.stayed.1 (λ is. u.stayed.2 (s.console_cause is))
   ends_well words (Help topic) t u = tells_well o (help_text topic) t (λ is. u.stayed (t.cause is))
   ends_well words Version t u = tells_well o version_text t (λ is. u.stayed (t.cause is))
 
@@ -140,6 +146,8 @@ two_is_usage (Told fault.Full) two = cc
 two_is_usage (Told fault.Memory) two = cc
 two_is_usage (Told fault.OldVersion) two = cc
 two_is_usage (Told fault.OtherHistory) two = cc
+two_is_usage BroughtInPart two = cc
+two_is_usage Differ two = cc
 
 pub same_command : (one other : Command) → Some one ≡ Some other → one ≡ other
 same_command one other is = cc

@@ -1,9 +1,9 @@
 -- The command that compares a digest: with which status it ends over a file that has no history.
-use Rattle.std.proofs.Common.{◌≡◌, inl, inr, ℕ, true, List, Some, refl, subst}
+use Rattle.std.proofs.Common.{◌≡◌, inl, inr, ℕ, true, List, refl, subst}
 use Rattle.std.specs.Prelude.{IsSomeAnd}
 use Rattle.console_lines.specs.Ends.{Outcome, TellsNoFault, end_status}
 use Rattle.console_lines.specs.declared.end.End.{End}
-use Rattle.console_lines.specs.declared.end.End.TheVariants.{Done, Refused, Unwritten, Told}
+use Rattle.console_lines.specs.declared.end.End.TheVariants.{Done, Refused, Unwritten, Told, BroughtInPart, Differ}
 use Rattle.console_lines.specs.declared.fault.Fault.TheVariants as fault
 use Rattle.durable_catalogue.specs.Logs.{IsLogOf}
 use Rattle.journal_verification.specs.Contents.{IsVerified}
@@ -29,6 +29,8 @@ digest_status (Told fault.Full) kind untold input other = absurd kind
 digest_status (Told fault.Memory) kind untold input other = inr refl
 digest_status (Told fault.OldVersion) kind untold input other = absurd kind
 digest_status (Told fault.OtherHistory) kind untold input other = absurd (other refl)
+digest_status BroughtInPart kind untold input other = absurd kind
+digest_status Differ kind untold input other = absurd kind
 
 pub none_digested : (o : Outcome) (journal : List ℕ) (count : ℕ) (digits : List ℕ) → VerifiesDigest journal count digits o → o.old.tells ≡ true
     → (o.end ≡ Told fault.Input → ⊥) → IsSomeAnd (o.old.file journal) IsNoHistory → IsStatus 6 (end_status o.end)

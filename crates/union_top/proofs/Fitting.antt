@@ -14,9 +14,9 @@ use Rattle.entry_record.specs.History.{entry_size, entries_size}
 use Rattle.file_entries.specs.Files.{IsJudged, Accepts}
 use Rattle.file_entries.proofs.Every.{every_judged}
 use Rattle.file_entries.specs.declared.refused.RefusedItem.{RefusedItem}
-use Rattle.console_lines.specs.Ends.{Outcome, IsAllDone, end_status, out_unwritten, side_unwritten, pages_unwritten, console_unwritten}
+use Rattle.console_lines.specs.Ends.{Outcome, IsAllDone, IsCommon, end_status, out_unwritten, side_unwritten, pages_unwritten, console_unwritten}
 use Rattle.console_lines.specs.declared.end.End.{End}
-use Rattle.console_lines.specs.declared.end.End.TheVariants.{Done, Refused, Unwritten, Told}
+use Rattle.console_lines.specs.declared.end.End.TheVariants.{Done, Refused, Unwritten, Told, BroughtInPart, Differ}
 use Rattle.console_lines.specs.declared.end.Unwritten.TheVariants as unwritten
 use Rattle.console_lines.specs.declared.fault.Fault.{Fault}
 use Rattle.console_lines.specs.declared.fault.Fault.TheVariants as fault
@@ -48,16 +48,22 @@ well_status (Unwritten which) (inl all) = absurd all
 well_status (Unwritten which) (inr memory) = cc
 well_status (Told why) (inl all) = absurd all
 well_status (Told why) (inr memory) = inr (ap end_status memory)
+well_status BroughtInPart (inl all) = absurd all
+well_status BroughtInPart (inr memory) = cc
+well_status Differ (inl all) = absurd all
+well_status Differ (inr memory) = cc
 
 pub by_end : (end : End) → (end ≡ out_unwritten → ⊥) → (end ≡ side_unwritten → ⊥) × (end ≡ pages_unwritten → ⊥) → (end ≡ console_unwritten → ⊥)
-    → ((why : Fault) → end ≡ Told why → why ≡ fault.Memory) → EndsWell end
-by_end Done out others console told = inl tt
-by_end Refused out others console told = inl tt
-by_end (Unwritten unwritten.Out) out others console told = absurd (out refl)
-by_end (Unwritten unwritten.Side) out others console told = absurd (others.0 refl)
-by_end (Unwritten unwritten.Pages) out others console told = absurd (others.1 refl)
-by_end (Unwritten unwritten.Console) out others console told = absurd (console refl)
-by_end (Told why) out others console told = inr (ap Told (told why refl))
+    → IsCommon end → ((why : Fault) → end ≡ Told why → why ≡ fault.Memory) → EndsWell end
+by_end Done out others console common told = inl tt
+by_end Refused out others console common told = inl tt
+by_end (Unwritten unwritten.Out) out others console common told = absurd (out refl)
+by_end (Unwritten unwritten.Side) out others console common told = absurd (others.0 refl)
+by_end (Unwritten unwritten.Pages) out others console common told = absurd (others.1 refl)
+by_end (Unwritten unwritten.Console) out others console common told = absurd (console refl)
+by_end (Told why) out others console common told = inr (ap Told (told why refl))
+by_end BroughtInPart out others console common told = absurd (common.0 refl)
+by_end Differ out others console common told = absurd (common.1 refl)
 
 -- a fault of a pass that remains
 pass_why : (why : Fault) → IsFaultOfLoading why → (why ≡ fault.Input → ⊥) → (why ≡ fault.Full → ⊥) → why ≡ fault.Memory
@@ -112,19 +118,21 @@ module _ (o : Outcome) where
   passes_well due libraries out ends f no_out no_console no_input =
       let p = ends f.library f.named in
       let j = every_judged f.library.code 0 (items f.alone.bytes) in
-      by_end o.end no_out p.no_side no_console
+      by_end o.end no_out p.no_side no_console p.common
       (λ why is. pass_why why (p.told why is).1 (λ same. no_input (is ∙ ap Told same))
       (λ same. never_full_at (limits_of o.old.is_large) f.library.code (items f.alone.bytes) j.accepted j.refused j.judged (f.alone.within j.accepted j.refused j.judged)
       (subst (λ file. IsSomeAnd file (λ bytes. IsFullAt (limits_of o.old.is_large) f.library.code (items bytes))) f.alone.there (p.full (is ∙ ap Told same) f.tells))))
 
   pub makes_well : (seed count : ℕ) (out : List ℕ) → Makes seed count out o → Never out_unwritten → Never console_unwritten → EndsWell o.end
   makes_well seed count out m no_out no_console =
-      by_end o.end no_out ((λ is. subst EndsMaking is m.ends), (λ is. subst EndsMaking is m.ends)) no_console (λ why is. subst EndsMaking is m.ends)
+      by_end o.end no_out ((λ is. subst EndsMaking is m.ends), (λ is. subst EndsMaking is m.ends)) no_console
+      ((λ is. subst EndsMaking is m.ends), (λ is. subst EndsMaking is m.ends)) (λ why is. subst EndsMaking is m.ends)
 
   pub reads_well : (journal out : List ℕ) (due : List Entry → List ℕ) → ReadsJournal journal out due o → FitsReading o.old journal
       → Never out_unwritten → Never (Told fault.Device) → EndsWell o.end
   reads_well journal out due r f no_out no_device =
       by_end o.end no_out ((λ is. subst EndsReading is r.ends), (λ is. subst EndsReading is r.ends)) (λ is. subst EndsReading is r.ends)
+      ((λ is. subst EndsReading is r.ends), (λ is. subst EndsReading is r.ends))
       (λ why is.
       let w = (r.told why is).1 in
       w.is ∙ opening_well (log_bytes o.old journal) w.reason (λ old. subst EndsReading (is ∙ ap Told (w.is ∙ ap fault_of_opening old)) r.ends)
@@ -136,6 +144,7 @@ module _ (o : Outcome) where
   attaches_well words journal out rest code ends f no_out no_rest no_console no_input no_device =
       let a = ends f.library f.named in
       by_end o.end no_out (no_rest, λ is. subst EndsAttaching is a.ends) no_console
+      ((λ is. subst EndsAttaching is a.ends), (λ is. subst EndsAttaching is a.ends))
       (λ why is.
       let w = a.because why is (λ same. no_input (is ∙ ap Told same)) in
       w.is ∙ opening_well (log_bytes o.old journal) w.reason (λ old. subst EndsAttaching (is ∙ ap Told (w.is ∙ ap fault_of_opening old)) a.ends)
@@ -146,6 +155,7 @@ module _ (o : Outcome) where
   loads_well libraries journal l f no_console no_input no_device =
       let fits = fits_judged o.old journal libraries f.together in
       by_end o.end l.no_output.0 (l.no_output.1, λ is. subst EndsLoad is l.ends) no_console
+      ((λ is. subst EndsLoad is l.ends), (λ is. subst EndsLoad is l.ends))
       (λ why is. load_why why (of_load o.old o.new journal libraries f.tells fits why (l.because why is f.tells)) (l.told why is).1
       (λ same. no_input (is ∙ ap Told same)) (λ same. no_device (is ∙ ap Told same)))
 
@@ -154,5 +164,6 @@ module _ (o : Outcome) where
   runs_well libraries journal out report r f no_out no_report no_console no_input no_device =
       let fits = fits_judged o.old journal libraries f.together in
       by_end o.end no_out (no_report, λ is. subst EndsRun is r.ends) no_console
+      ((λ is. subst EndsRun is r.ends), (λ is. subst EndsRun is r.ends))
       (λ why is. load_why why (of_load o.old o.new journal libraries f.tells fits why (r.because why is f.tells)) (r.told why is).1
       (λ same. no_input (is ∙ ap Told same)) (λ same. no_device (is ∙ ap Told same)))

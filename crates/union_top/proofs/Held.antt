@@ -1,14 +1,17 @@
 -- What promises that are kept spare a command: a count of what holds more than is there and than is due did not rise.
-use Rattle.std.proofs.Common.{◌≡◌, ◌⊎◌, inl, inr, ℕ, ◌+◌, ◌≤◌, max, List, ◌++◌, length, Option, Some, None, ap, subst, ◌∙◌, arith}
+use Rattle.std.proofs.Common.{◌≡◌, ◌⊎◌, inl, inr, ℕ, ◌+◌, ◌≤◌, max, List, [], ◌∷◌, ◌++◌, length, Option, Some, None, refl, ap, subst, ◌∙◌, arith}
 use Rattle.std.specs.Io.KnownBytes.{Appends}
+use Rattle.std.specs.Prelude.{All}
 use Rattle.std.proofs.lemmas.List.{length-append}
+use Rattle.std.proofs.lemmas.List.Elements.{All-head, All-tail}
+use Rattle.outside.specs.Fault.{count_total}
 use Rattle.outside.specs.Room.{Promise, ReadsAlways, HoldsUpTo, IsPromiseKept, bytes_or_none}
 use Rattle.outside.specs.Sink.{WritesFront}
 use Rattle.commit_journal.specs.declared.format.TheConstants.{BLANK_LENGTH}
 use Rattle.command_words.specs.declared.library.Library.{Library}
 use Rattle.output_files.specs.Outputs.{IsOutputLeft}
 use Rattle.journal_files.specs.Journals.{log_bytes, KeepsHistory, Unopened, Opened}
-use Rattle.union_top.specs.Complete.{Around, Stayed, OutStayed, LogStayed, ConsoleStayed, InputsStayed, InStayed}
+use Rattle.union_top.specs.Complete.{Around, Stayed, OutStayed, LogStayed, ConsoleStayed, InputsStayed, InStayed, InsStayed}
 use Rattle.union_top.specs.Sure.{AreReadAlways, HoldsOutput, HoldsLog, HoldsText}
 
 -- a count that is none did not rise
@@ -31,6 +34,16 @@ module _ (a : Around) (promises : (n : List ℕ) → a.new.promise n ≡ a.old.p
 
   pub in_stayed : (name : List ℕ) → a.old.promise name ≡ ReadsAlways → InStayed a name
   in_stayed name is = none_stayed (a.old.in_faults name) (a.new.in_faults name) (is_kept name ReadsAlways is)
+
+  all_none : (names : List (List ℕ)) → All (λ name. a.old.promise name ≡ ReadsAlways) names → count_total a.new.in_faults names ≡ 0
+  all_none [] all = refl
+  all_none (name ∷ names) all =
+      let one : a.new.in_faults name ≡ 0 = is_kept name ReadsAlways (All-head (λ n. a.old.promise n ≡ ReadsAlways) name names all) in
+      let others = all_none names (All-tail (λ n. a.old.promise n ≡ ReadsAlways) name names all) in
+      omega (arith, one, others)
+
+  pub names_stayed : (names : List (List ℕ)) → All (λ name. a.old.promise name ≡ ReadsAlways) names → InsStayed a names
+  names_stayed names all = none_stayed (count_total a.old.in_faults names) (count_total a.new.in_faults names) (all_none names all)
 
   pub inputs_stayed : (libraries : List Library) → AreReadAlways a.old libraries → InputsStayed a libraries
   inputs_stayed libraries all k d within = in_stayed _ (all k d within)

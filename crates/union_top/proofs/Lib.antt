@@ -24,4 +24,5 @@ mod Misfits
 mod Refusing
 mod Carried
 mod Either
+mod Joined
 mod OwnPoint

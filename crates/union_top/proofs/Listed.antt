@@ -26,6 +26,7 @@ module _ (o : Outcome) (journal list page : List ℕ) (code : Option (List ℕ))
   pub lists_well : FitsReading o.old journal → Never list_unwritten → Never page_unwritten → Never (Told fault.Device) → EndsWell o.end
   lists_well f no_list no_page no_device =
       by_end o.end no_list (no_page, λ is. subst EndsListing is m.ends) (λ is. subst EndsListing is m.ends)
+      ((λ is. subst EndsListing is m.ends), (λ is. subst EndsListing is m.ends))
       (λ why is.
       let w = (m.told why is).1 in
       w.is ∙ opening_well (log_bytes o.old journal) w.reason (λ old. subst EndsListing (is ∙ ap Told (w.is ∙ ap fault_of_opening old)) m.ends)
@@ -37,7 +38,7 @@ module _ (o : Outcome) (journal list page : List ℕ) (code : Option (List ℕ))
       → Never list_unwritten → Never page_unwritten → Never (Told fault.Device) → IsStatus due (end_status o.end)
   lists_status due tells unfit opens no_list no_page no_device =
       by_told due o.end (λ good. unfit (m.history (all_untold o.end good) tells)) no_list (no_page, λ is. subst EndsListing is m.ends)
-      (λ is. subst EndsListing is m.ends)
+      (λ is. subst EndsListing is m.ends) ((λ is. subst EndsListing is m.ends), (λ is. subst EndsListing is m.ends))
       (λ why is.
       let w = (m.told why is).1 in
       subst (λ f. IsStatus due (fault_status f)) (sym w.is) (opens w.reason (w.so tells)

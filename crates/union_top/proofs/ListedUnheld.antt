@@ -31,6 +31,7 @@ module _ (o : Outcome) (journal list page : List ℕ) (code : Option (List ℕ))
   pub lists_unheld_well : FitsLook o.old journal → Never list_unwritten → Never page_unwritten → Never (Told fault.Input) → EndsWell o.end
   lists_unheld_well f no_list no_page no_input =
       by_end o.end no_list (no_page, λ is. subst EndsListingUnheld is l.ends) (λ is. subst EndsListingUnheld is l.ends)
+      ((λ is. subst EndsListingUnheld is l.ends), (λ is. subst EndsListingUnheld is l.ends))
       (only_memory o journal l.so no_old no_input f)
 
   list_unheld_status : (status : ℕ) (bytes : List ℕ) → o.old.tells ≡ true → o.old.file journal ≡ Some bytes → (HasFittingHistory o.old bytes → ⊥)
@@ -40,6 +41,7 @@ module _ (o : Outcome) (journal list page : List ℕ) (code : Option (List ℕ))
   list_unheld_status status bytes tells there unfit opens no_list no_page no_input =
       by_told status o.end (λ good. unfit (subst (λ file. IsSomeAnd file (HasFittingHistory o.old)) there (l.history (all_untold o.end good) tells))) no_list
       (no_page, λ is. subst EndsListingUnheld is l.ends) (λ is. subst EndsListingUnheld is l.ends)
+      ((λ is. subst EndsListingUnheld is l.ends), (λ is. subst EndsListingUnheld is l.ends))
       (untaken_status o journal l.so no_old no_input status bytes tells there opens)
 
   pub lists_unheld_refuses : (words : List (List ℕ)) → o.old.tells ≡ true → Never list_unwritten → Never page_unwritten → Never (Told fault.Input)

@@ -7,7 +7,7 @@ use Rattle.command_words.specs.Look.{Look}
 use Rattle.console_lines.specs.Ends.{Outcome, IsAllDone, TellsNoFault, end_status, out_unwritten}
 use Rattle.console_lines.specs.Faults.{fault_status}
 use Rattle.console_lines.specs.declared.end.End.{End}
-use Rattle.console_lines.specs.declared.end.End.TheVariants.{Done, Refused, Unwritten, Told}
+use Rattle.console_lines.specs.declared.end.End.TheVariants.{Done, Refused, Unwritten, Told, BroughtInPart, Differ}
 use Rattle.console_lines.specs.declared.end.Unwritten.TheVariants.{Side, Pages, Console}
 use Rattle.console_lines.specs.declared.fault.Fault.{Fault}
 use Rattle.console_lines.specs.declared.fault.Fault.TheVariants as fault
@@ -47,6 +47,8 @@ all_untold Done good = tt
 all_untold Refused good = tt
 all_untold (Unwritten which) good = absurd good
 all_untold (Told why) good = absurd good
+all_untold BroughtInPart good = absurd good
+all_untold Differ good = absurd good
 
 pub with_bytes : {P : List ℕ → Type 0} {Q : Type 0} (file : Option (List ℕ)) → IsSomeAnd file P → ((bytes : List ℕ) → file ≡ Some bytes → P bytes → Q) → Q
 with_bytes None so then = absurd so
@@ -98,6 +100,7 @@ module _ (o : Outcome) (journal out : List ℕ) (due : List Entry → List ℕ) 
   pub looks_well : FitsLook o.old journal → Never out_unwritten → Never (Told fault.Input) → EndsWell o.end
   looks_well f no_out no_input =
       by_end o.end no_out (ends_so (Unwritten Side), ends_so (Unwritten Pages)) (ends_so (Unwritten Console))
+      (ends_so BroughtInPart, ends_so Differ)
       (only_memory o journal l.so (ends_so (Told fault.OldVersion)) no_input f)
 
   looks_status : (status : ℕ) (bytes : List ℕ) → o.old.tells ≡ true → o.old.file journal ≡ Some bytes → (HasFittingHistory o.old bytes → ⊥)
@@ -107,6 +110,7 @@ module _ (o : Outcome) (journal out : List ℕ) (due : List Entry → List ℕ) 
   looks_status status bytes tells there unfit opens no_out no_input =
       by_told status o.end (λ good. unfit (subst (λ file. IsSomeAnd file (HasFittingHistory o.old)) there (l.history (all_untold o.end good) tells))) no_out
       (ends_so (Unwritten Side), ends_so (Unwritten Pages)) (ends_so (Unwritten Console))
+      (ends_so BroughtInPart, ends_so Differ)
       (untaken_status o journal l.so (ends_so (Told fault.OldVersion)) no_input status bytes tells there opens)
 
 pub looks_refuses : (o : Outcome) → o.old.tells ≡ true → (words : List (List ℕ)) (look : Look) (journal out : List ℕ) → LooksInto journal out (look_due look) o

@@ -5,7 +5,7 @@ use Rattle.marc_types.specs.declared.entry.Entry.{Entry}
 use Rattle.outside.specs.Room.{RoomView, SameBut}
 use Rattle.console_lines.specs.Ends.{Outcome, IsAllDone, console_unwritten}
 use Rattle.console_lines.specs.declared.end.End.{End}
-use Rattle.console_lines.specs.declared.end.End.TheVariants.{Done, Refused, Unwritten, Told}
+use Rattle.console_lines.specs.declared.end.End.TheVariants.{Done, Refused, Unwritten, Told, BroughtInPart, Differ}
 use Rattle.console_lines.specs.declared.end.Unwritten.TheVariants.{Out, Side, Pages, Console}
 use Rattle.console_lines.specs.declared.fault.Fault.{Fault}
 use Rattle.console_lines.specs.declared.fault.Fault.TheVariants as fault
@@ -32,6 +32,8 @@ migrated_well (Unwritten Side) kind console told = absurd kind
 migrated_well (Unwritten Pages) kind console told = absurd kind
 migrated_well (Unwritten Console) kind console told = absurd (console refl)
 migrated_well (Told why) kind console told = inr (ap Told (told why refl))
+migrated_well BroughtInPart kind console told = absurd kind
+migrated_well Differ kind console told = absurd kind
 
 -- one of the new journal that does, where that is fit for the old one's history
 module _ (room : RoomView) (from into : List ℕ) (history entries : List Entry) (was : HasHistory history from) (fits : ∥ IsFit (journal_limits room) history entries into ∥₁) where

@@ -6,10 +6,10 @@ use Rattle.outside.specs.Room.{RoomView}
 use Rattle.commit_journal.specs.Log.{version_of}
 use Rattle.command_words.specs.declared.library.Library.{Library}
 use Rattle.entry_record.specs.History.{IsWithin}
-use Rattle.console_lines.specs.Ends.{IsAllDone, end_status, out_unwritten, side_unwritten, pages_unwritten, console_unwritten}
+use Rattle.console_lines.specs.Ends.{IsAllDone, IsCommon, end_status, out_unwritten, side_unwritten, pages_unwritten, console_unwritten}
 use Rattle.console_lines.specs.Faults.{fault_status}
 use Rattle.console_lines.specs.declared.end.End.{End}
-use Rattle.console_lines.specs.declared.end.End.TheVariants.{Done, Refused, Unwritten, Told}
+use Rattle.console_lines.specs.declared.end.End.TheVariants.{Done, Refused, Unwritten, Told, BroughtInPart, Differ}
 use Rattle.console_lines.specs.declared.end.Unwritten.TheVariants as unwritten
 use Rattle.console_lines.specs.declared.fault.Fault.{Fault}
 use Rattle.console_lines.specs.declared.fault.Fault.TheVariants as fault
@@ -72,15 +72,17 @@ module _ (room : RoomView) (log : List ℕ) where
 
 -- an end that isn't good is a fault that is told, with its status
 pub by_told : (due : ℕ) (end : End) → (IsAllDone end → ⊥) → (end ≡ out_unwritten → ⊥) → (end ≡ side_unwritten → ⊥) × (end ≡ pages_unwritten → ⊥)
-    → (end ≡ console_unwritten → ⊥)
+    → (end ≡ console_unwritten → ⊥) → IsCommon end
     → ((why : Fault) → end ≡ Told why → IsStatus due (fault_status why)) → IsStatus due (end_status end)
-by_told due Done good out others console told = absurd (good tt)
-by_told due Refused good out others console told = absurd (good tt)
-by_told due (Unwritten unwritten.Out) good out others console told = absurd (out refl)
-by_told due (Unwritten unwritten.Side) good out others console told = absurd (others.0 refl)
-by_told due (Unwritten unwritten.Pages) good out others console told = absurd (others.1 refl)
-by_told due (Unwritten unwritten.Console) good out others console told = absurd (console refl)
-by_told due (Told why) good out others console told = told why refl
+by_told due Done good out others console common told = absurd (good tt)
+by_told due Refused good out others console common told = absurd (good tt)
+by_told due (Unwritten unwritten.Out) good out others console common told = absurd (out refl)
+by_told due (Unwritten unwritten.Side) good out others console common told = absurd (others.0 refl)
+by_told due (Unwritten unwritten.Pages) good out others console common told = absurd (others.1 refl)
+by_told due (Unwritten unwritten.Console) good out others console common told = absurd (console refl)
+by_told due (Told why) good out others console common told = told why refl
+by_told due BroughtInPart good out others console common told = absurd (common.0 refl)
+by_told due Differ good out others console common told = absurd (common.1 refl)
 
 -- ---- a loading
 

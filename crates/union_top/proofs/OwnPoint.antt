@@ -8,7 +8,7 @@ use Rattle.command_words.specs.Command.{VerifyPoint}
 use Rattle.console_lines.specs.Ends.{Outcome, IsAllDone, end_status, console_unwritten}
 use Rattle.console_lines.specs.Faults.{fault_status}
 use Rattle.console_lines.specs.declared.end.End.{End}
-use Rattle.console_lines.specs.declared.end.End.TheVariants.{Done, Refused, Unwritten, Told}
+use Rattle.console_lines.specs.declared.end.End.TheVariants.{Done, Refused, Unwritten, Told, BroughtInPart, Differ}
 use Rattle.console_lines.specs.declared.end.Unwritten.TheVariants.{Out, Side, Pages, Console}
 use Rattle.console_lines.specs.declared.fault.Fault.{Fault}
 use Rattle.console_lines.specs.declared.fault.Fault.TheVariants as fault
@@ -94,6 +94,8 @@ own_by_end (Unwritten Side) kind console told = absurd kind
 own_by_end (Unwritten Pages) kind console told = absurd kind
 own_by_end (Unwritten Console) kind console told = absurd (console refl)
 own_by_end (Told why) kind console told = inr (ap Told (told why refl))
+own_by_end BroughtInPart kind console told = absurd kind
+own_by_end Differ kind console told = absurd kind
 
 status_by_end : (due : ℕ) (end : End) → EndsVerifyingPoint end → (IsAllDone end → ⊥) → (end ≡ console_unwritten → ⊥)
     → ((why : Fault) → end ≡ Told why → IsStatus due (fault_status why)) → IsStatus due (end_status end)
@@ -104,6 +106,8 @@ status_by_end due (Unwritten Side) kind good console told = absurd kind
 status_by_end due (Unwritten Pages) kind good console told = absurd kind
 status_by_end due (Unwritten Console) kind good console told = absurd (console refl)
 status_by_end due (Told why) kind good console told = told why refl
+status_by_end due BroughtInPart kind good console told = absurd kind
+status_by_end due Differ kind good console told = absurd kind
 
 -- the bytes of a file that is there
 same_file : (file : Option (List ℕ)) (bytes others : List ℕ) → file ≡ Some bytes → file ≡ Some others → bytes ≡ others

@@ -7,7 +7,7 @@ use Rattle.outside.specs.Fault.{Rose}
 use Rattle.console_lines.specs.Ends.{Outcome, out_unwritten, side_unwritten, console_unwritten}
 use Rattle.console_lines.specs.Faults.{fault_status}
 use Rattle.console_lines.specs.declared.end.End.{End}
-use Rattle.console_lines.specs.declared.end.End.TheVariants.{Done, Refused, Unwritten, Told}
+use Rattle.console_lines.specs.declared.end.End.TheVariants.{Done, Refused, Unwritten, Told, BroughtInPart, Differ}
 use Rattle.console_lines.specs.declared.end.Unwritten.TheVariants.{Out, Side, Pages, Console}
 use Rattle.console_lines.specs.declared.fault.Fault.{Fault}
 use Rattle.console_lines.specs.declared.fault.Fault.TheVariants as fault
@@ -85,6 +85,8 @@ checkpoint_by_end (Unwritten Side) kind console told = absurd kind
 checkpoint_by_end (Unwritten Pages) kind console told = absurd kind
 checkpoint_by_end (Unwritten Console) kind console told = absurd (console refl)
 checkpoint_by_end (Told why) kind console told = inr (ap Told (told why refl))
+checkpoint_by_end BroughtInPart kind console told = absurd kind
+checkpoint_by_end Differ kind console told = absurd kind
 
 quick_by_end : (report : Option (List ℕ)) (end : End) → EndsQuick report end → (end ≡ out_unwritten → ⊥) → (end ≡ side_unwritten → ⊥) → (end ≡ console_unwritten → ⊥)
     → ((why : Fault) → end ≡ Told why → why ≡ fault.Memory) → EndsWell end
@@ -95,6 +97,8 @@ quick_by_end report (Unwritten Side) kind out side console told = absurd (side r
 quick_by_end report (Unwritten Pages) kind out side console told = absurd kind
 quick_by_end report (Unwritten Console) kind out side console told = absurd (console refl)
 quick_by_end report (Told why) kind out side console told = inr (ap Told (told why refl))
+quick_by_end report BroughtInPart kind out side console told = absurd kind
+quick_by_end report Differ kind out side console told = absurd kind
 
 -- no report is missing where none is asked for
 pub never_side : (end : End) → EndsQuick None end → end ≡ side_unwritten → ⊥

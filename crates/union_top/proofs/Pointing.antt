@@ -59,6 +59,7 @@ module _ (o : Outcome) (tells : o.old.tells ≡ true) (words : List (List ℕ)) 
         → IsStatus due (end_status o.end)
     checkpoint_status due good told =
         by_told due o.end good (λ is. subst EndsCheckpoint is c.ends) ((λ is. subst EndsCheckpoint is c.ends), (λ is. subst EndsCheckpoint is c.ends)) (λ is. s.2 (c.console is))
+        ((λ is. subst EndsCheckpoint is c.ends), (λ is. subst EndsCheckpoint is c.ends))
         (λ why is. told why (c.told why is).1)
 
     pub checkpoint_refuses : RefusesMisfits words (Checkpoint journal point) o.old (end_status o.end)
@@ -83,7 +84,8 @@ module _ (o : Outcome) (tells : o.old.tells ≡ true) (words : List (List ℕ)) 
     quick_status : (due : ℕ) → (IsAllDone o.end → ⊥) → ((why : Fault) → IsJournalRefused journal why o.old o.new ⊎ IsRefusedBehind journal point why o.old o.new → IsStatus due (fault_status why))
         → IsStatus due (end_status o.end)
     quick_status due good told =
-        by_told due o.end good no_out (no_side, (λ is. subst (EndsQuick report) is q.ends)) no_console (λ why is. told why (q.told why is).1)
+        by_told due o.end good no_out (no_side, (λ is. subst (EndsQuick report) is q.ends)) no_console
+        ((λ is. subst (EndsQuick report) is q.ends), (λ is. subst (EndsQuick report) is q.ends)) (λ why is. told why (q.told why is).1)
 
     quick_none : IsNoHistory (log_bytes o.old journal) → IsStatus 6 (end_status o.end)
     quick_none none =

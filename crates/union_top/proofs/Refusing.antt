@@ -5,13 +5,13 @@ use Rattle.marc_types.specs.declared.entry.Entry.{Entry}
 use Rattle.outside.specs.Room.{RoomView, SameBut}
 use Rattle.commit_journal.specs.Log.{version_of}
 use Rattle.command_words.specs.declared.library.Library.{Library}
-use Rattle.command_words.specs.Command.{Command, Pass, Run, Load, Browse, Export, Report, Make, Verify, VerifyPoint, VerifyDigest, Matches, Holdings, Headings, Worklist, Migrate, Salvage, Checkpoint, Quick, QuickReport, Read, ReadHoldings, ReadWorklist, Refused as RefusedOf, Help, Version, libraries_of}
+use Rattle.command_words.specs.Command.{Command, Pass, Run, Load, Browse, Export, Report, Make, Verify, VerifyPoint, VerifyDigest, Matches, Holdings, Headings, Worklist, Migrate, Salvage, Checkpoint, Quick, QuickReport, Read, ReadHoldings, ReadWorklist, Refused as RefusedOf, Totals as TotalsOf, Join, Split, Help, Version, libraries_of}
 use Rattle.command_words.specs.Look.{HeadingRange}
 use Rattle.entry_record.specs.History.{IsMerged, IsWithin}
 use Rattle.console_lines.specs.Ends.{Outcome, IsAllDone, TellsNoFault, end_status, out_unwritten, side_unwritten, console_unwritten}
 use Rattle.console_lines.specs.Faults.{fault_status}
 use Rattle.console_lines.specs.declared.end.End.{End}
-use Rattle.console_lines.specs.declared.end.End.TheVariants.{Done, Refused, Unwritten, Told}
+use Rattle.console_lines.specs.declared.end.End.TheVariants.{Done, Refused, Unwritten, Told, BroughtInPart, Differ}
 use Rattle.console_lines.specs.declared.fault.Fault.{Fault}
 use Rattle.console_lines.specs.declared.fault.Fault.TheVariants as fault
 use Rattle.durable_catalogue.specs.Openings.{IsUnopened}
@@ -52,6 +52,8 @@ no_fault Done good = tt
 no_fault Refused good = tt
 no_fault (Unwritten which) good = absurd good
 no_fault (Told why) good = absurd good
+no_fault BroughtInPart good = absurd good
+no_fault Differ good = absurd good
 
 -- what an opening that isn't of an old version says of a status
 abbrev OpensWith : RoomView → ℕ → List ℕ → Type 0
@@ -74,7 +76,7 @@ module _ (o : Outcome) (tells : o.old.tells ≡ true) where
         → IsStatus due (end_status o.end)
     reads_status out bytes r no_out no_device =
         by_told due o.end (λ good. unfit (r.history (no_fault o.end good) tells)) no_out ((λ is. subst EndsReading is r.ends), (λ is. subst EndsReading is r.ends))
-        (λ is. subst EndsReading is r.ends)
+        (λ is. subst EndsReading is r.ends) ((λ is. subst EndsReading is r.ends), (λ is. subst EndsReading is r.ends))
         (λ why is.
         let w = (r.told why is).1 in
         subst (λ f. IsStatus due (fault_status f)) (sym w.is) (opens w.reason (w.so tells)
@@ -85,6 +87,7 @@ module _ (o : Outcome) (tells : o.old.tells ≡ true) where
         → IsStatus due (end_status o.end)
     attaches_status out rest library code a no_out no_rest no_console no_input no_device =
         by_told due o.end (λ good. unfit (a.history (inl (no_fault o.end good)) tells)) no_out (no_rest, λ is. subst EndsAttaching is a.ends) no_console
+        ((λ is. subst EndsAttaching is a.ends), (λ is. subst EndsAttaching is a.ends))
         (λ why is.
         let w = a.because why is (λ same. no_input (is ∙ ap Told same)) in
         subst (λ f. IsStatus due (fault_status f)) (sym w.is) (opens w.reason (w.so tells)
@@ -102,12 +105,14 @@ module _ (o : Outcome) (tells : o.old.tells ≡ true) where
     loads_status : Loads libraries journal o → Never console_unwritten → Never (Told fault.Input) → Never (Told fault.Device) → IsStatus due (end_status o.end)
     loads_status l no_console no_input no_device =
         by_told due o.end (λ good. unmerged (l.whole good tells).merged) l.no_output.0 (l.no_output.1, λ is. subst EndsLoad is l.ends) no_console
+        ((λ is. subst EndsLoad is l.ends), (λ is. subst EndsLoad is l.ends))
         (λ why is. either why (l.because why is tells) (λ same. no_device (is ∙ ap Told same)) (λ same. no_input (is ∙ ap Told same)))
 
     runs_status : (out report : List ℕ) → Runs libraries journal out report o → Never out_unwritten → Never side_unwritten → Never console_unwritten
         → Never (Told fault.Input) → Never (Told fault.Device) → IsStatus due (end_status o.end)
     runs_status out report r no_out no_report no_console no_input no_device =
         by_told due o.end (λ good. unmerged (r.whole good tells).merged) no_out (no_report, λ is. subst EndsRun is r.ends) no_console
+        ((λ is. subst EndsRun is r.ends), (λ is. subst EndsRun is r.ends))
         (λ why is. either why (r.because why is tells) (λ same. no_device (is ∙ ap Told same)) (λ same. no_input (is ∙ ap Told same)))
 
   module _ (journal : List ℕ) (libraries : List Library) (m : IsMergedLoad o.old o.new journal libraries) where
@@ -134,6 +139,7 @@ module _ (o : Outcome) (tells : o.old.tells ≡ true) where
     migrates_status due not_done of_from of_into =
         by_told due o.end (λ good. not_done (no_fault o.end good)) (λ is. subst EndsMigrating is m.ends)
         ((λ is. subst EndsMigrating is m.ends), (λ is. subst EndsMigrating is m.ends)) no_console
+        ((λ is. subst EndsMigrating is m.ends), (λ is. subst EndsMigrating is m.ends))
         (λ why is. either why is (m.told why is).1)
       where
         either : (why : Fault) → o.end ≡ Told why → (WhyNotFrom o.old from why × SameBut o.old o.new (from ∷ [])) ⊎ WhyNotInto o.old from into why
@@ -372,5 +378,8 @@ module _ (o : Outcome) (tells : o.old.tells ≡ true) where
     refuses (ReadWorklist journal list page code) l s =
         lists_unheld_refuses o journal list page code l words tells (λ is. s.1 (l.list_cause is)) (λ is. s.2 (l.page_cause is)) (λ is. s.0 (l.input is))
     refuses (RefusedOf out) p s = record { no_history = λ no. absurd no; other_version = λ no. absurd no; limits = λ no. absurd no }
+    refuses (TotalsOf first reports) t s = record { no_history = λ no. absurd no; other_version = λ no. absurd no; limits = λ no. absurd no }
+    refuses (Join out exports) j s = record { no_history = λ no. absurd no; other_version = λ no. absurd no; limits = λ no. absurd no }
+    refuses (Split count prefix files) p s = record { no_history = λ no. absurd no; other_version = λ no. absurd no; limits = λ no. absurd no }
     refuses (Help topic) t s = record { no_history = λ no. absurd no; other_version = λ no. absurd no; limits = λ no. absurd no }
     refuses Version t s = record { no_history = λ no. absurd no; other_version = λ no. absurd no; limits = λ no. absurd no }

@@ -7,7 +7,7 @@ use Rattle.outside.specs.Room.{RoomView}
 use Rattle.console_lines.specs.Ends.{Outcome, IsAllDone, TellsNoFault, end_status, console_unwritten}
 use Rattle.console_lines.specs.Faults.{fault_status}
 use Rattle.console_lines.specs.declared.end.End.{End}
-use Rattle.console_lines.specs.declared.end.End.TheVariants.{Done, Refused, Unwritten, Told}
+use Rattle.console_lines.specs.declared.end.End.TheVariants.{Done, Refused, Unwritten, Told, BroughtInPart, Differ}
 use Rattle.console_lines.specs.declared.end.Unwritten.TheVariants.{Out, Side, Pages, Console}
 use Rattle.console_lines.specs.declared.fault.Fault.{Fault}
 use Rattle.console_lines.specs.declared.fault.Fault.TheVariants as fault
@@ -35,6 +35,8 @@ salvaged_well (Unwritten Side) kind console told = absurd kind
 salvaged_well (Unwritten Pages) kind console told = absurd kind
 salvaged_well (Unwritten Console) kind console told = absurd (console refl)
 salvaged_well (Told why) kind console told = inr (ap Told (told why refl))
+salvaged_well BroughtInPart kind console told = absurd kind
+salvaged_well Differ kind console told = absurd kind
 
 -- a log that is fit for a history takes it, where memory and its device allow
 fit_well : (room : RoomView) (history entries : List Entry) (log : List ℕ) → IsFit (journal_limits room) history entries log → (reason : MigrateFault)
@@ -76,6 +78,8 @@ untold_status Done kind untold told = absurd (untold tt)
 untold_status Refused kind untold told = absurd kind
 untold_status (Unwritten which) kind untold told = absurd (untold tt)
 untold_status (Told why) kind untold told = told why refl
+untold_status BroughtInPart kind untold told = absurd kind
+untold_status Differ kind untold told = absurd kind
 
 -- nothing is sound of these bytes
 module _ (o : Outcome) (journal into : List ℕ) (s : Salvages journal into o) (tells : o.old.tells ≡ true) (no_input : o.end ≡ Told fault.Input → ⊥)

@@ -12,7 +12,7 @@ use Rattle.marc_stream.specs.Pieces.{items}
 use Rattle.workload.specs.Workload.{workload_bytes}
 use Rattle.commit_journal.specs.declared.format.TheConstants.{BLANK_LENGTH}
 use Rattle.command_words.specs.declared.library.Library.{Library}
-use Rattle.command_words.specs.Command.{Command, Pass, Run, Load, Browse, Export, Report, Make, Verify, VerifyPoint, VerifyDigest, Matches, Holdings, Headings, Worklist, Migrate, Salvage, Checkpoint, Quick, QuickReport, Read, ReadHoldings, ReadWorklist, Refused as RefusedOf, Help, Version, libraries_of}
+use Rattle.command_words.specs.Command.{Command, Pass, Run, Load, Browse, Export, Report, Make, Verify, VerifyPoint, VerifyDigest, Matches, Holdings, Headings, Worklist, Migrate, Salvage, Checkpoint, Quick, QuickReport, Read, ReadHoldings, ReadWorklist, Refused as RefusedOf, Totals as TotalsOf, Join, Split, Help, Version, libraries_of}
 use Rattle.file_entries.specs.Files.{IsJudged}
 use Rattle.file_entries.specs.declared.refused.RefusedItem.{RefusedItem}
 use Rattle.console_lines.specs.Ends.{Outcome, IsAllDone, TellsNoFault, end_of, end_status, out_unwritten, side_unwritten, console_unwritten}
@@ -65,9 +65,9 @@ use Rattle.browsing_commands.specs.Pages.{pages_text}
 use Rattle.browsing_commands.specs.Browses.{Browses}
 use Rattle.loading_commands.specs.Runs.{IsMergedLoad, WhyNotLoad}
 use Rattle.union_top.specs.Commands.{Ends}
-use Rattle.union_top.specs.Fits.{FitsPass, FitsLoad, FitsReading, FitsHoldings, FitsVerify, FitsLook, FitsUnheld, FitsMigrate, FitsSalvage, FitsPoint, FitsVerifyPoint, FitsVerifyDigest}
+use Rattle.union_top.specs.Fits.{FitsPass, FitsLoad, FitsReading, FitsHoldings, FitsVerify, FitsLook, FitsUnheld, FitsMigrate, FitsSalvage, FitsPoint, FitsVerifyPoint, FitsVerifyDigest, FitsTotals}
 use Rattle.union_top.specs.Complete.{Around, LogStayed}
-use Rattle.union_top.specs.Sure.{HoldsLog, HoldsText, PassCase, LoadCase, HoldingsCase, holdings_due, IsSurePass, IsSureMake, IsSureReading, IsSureVerify, IsSureVerifyPoint, IsSureVerifyDigest, IsSureLook, LogHas, FileHas, IsSureAttaching, IsSureHoldings, IsSureUnheld, IsSureMigrate, IsSureSalvage, IsSureQuick, IsSureLoad, IsSureRun, IsSureBrowse, IsSure, IsSureWorklist, IsSureWorklistUnheld}
+use Rattle.union_top.specs.Sure.{HoldsLog, HoldsText, PassCase, LoadCase, HoldingsCase, holdings_due, IsSurePass, IsSureMake, IsSureReading, IsSureVerify, IsSureVerifyPoint, IsSureVerifyDigest, IsSureLook, LogHas, FileHas, IsSureAttaching, IsSureHoldings, IsSureUnheld, IsSureMigrate, IsSureSalvage, IsSureQuick, IsSureLoad, IsSureRun, IsSureBrowse, IsSure, IsSureWorklist, IsSureWorklistUnheld, IsSureTotals}
 use Rattle.union_top.proofs.Complete.{around_of, one_stayed, none_failed, neither}
 use Rattle.union_top.proofs.Fitting.{EndsWell, well_status, Never, passes_well, makes_well, reads_well, attaches_well, loads_well, runs_well}
 use Rattle.union_top.proofs.Framed.{part_no_longer}
@@ -76,7 +76,10 @@ use Rattle.union_top.proofs.ListedUnheld.{lists_unheld_well}
 use Rattle.worklist_command.specs.Unheld.{ListsUnheld}
 use Rattle.worklist_command.specs.Working.{MakesWorklist, list_due}
 use Rattle.worklist_page.specs.Page.{page_of}
-use Rattle.union_top.proofs.Held.{in_stayed, inputs_stayed, out_stayed, log_stayed, same_stayed, kept_stayed, text_stayed}
+use Rattle.union_top.proofs.Held.{in_stayed, inputs_stayed, names_stayed, out_stayed, log_stayed, same_stayed, kept_stayed, text_stayed}
+use Rattle.catalogue_parts.specs.Joined.{line_of_totals}
+use Rattle.parts_commands.specs.Telling.{TellsTotals}
+use Rattle.union_top.proofs.Joined.{totals_well}
 use Rattle.union_top.proofs.Judgements.{fits_judged}
 use Rattle.union_top.proofs.Migrated.{migrates_well}
 use Rattle.union_top.proofs.Salvaged.{salvages_well}
@@ -434,6 +437,12 @@ module _ (o : Outcome) (promises : (n : List ℕ) → o.new.promise n ≡ o.old.
   sure_text : (text : List ℕ) → Tells text o → HoldsText a text → EndsWell o.end
   sure_text text t h = tells_well o text t (λ is. text_stayed a text h (t.part is) (t.cause is))
 
+  sure_totals : (first : List ℕ) (reports : List (List ℕ)) → TellsTotals first reports o → FitsTotals o.old first reports → IsSureTotals first reports a → EndsWell o.end
+  sure_totals first reports t f h =
+      totals_well o first reports t f
+      (λ is. let part = t.part is f.tells in text_stayed a (line_of_totals part.whole) (h.console part.whole part.joined) part.console (t.console_cause is))
+      (λ is. names_stayed a promises kept (first ∷ reports) h.inputs (t.input is))
+
   ends_sure : (words : List (List ℕ)) (command : Command) → Ends words command o → IsSure words command a → EndsWell o.end
   ends_sure words (Pass out) ends u = sure_pass export_due (libraries_of words) out ends u.fits u.holds
   ends_sure words (Run journal out report files) r u = sure_run (libraries_of words) journal out report r u.fits u.holds
@@ -462,6 +471,9 @@ module _ (o : Outcome) (promises : (n : List ℕ) → o.new.promise n ≡ o.old.
   ends_sure words (ReadHoldings journal out rest code) ends u = sure_unheld words journal out rest code ends u.fits u.holds
   ends_sure words (ReadWorklist journal list page code) l u = sure_worklist_unheld journal list page code l u.fits u.holds
   ends_sure words (RefusedOf out) ends u = sure_pass refused_due (libraries_of words) out ends u.fits u.holds
+  ends_sure words (TotalsOf first reports) t u = sure_totals first reports t u.fits u.holds
+  ends_sure words (Join out exports) j u = absurd u.holds
+  ends_sure words (Split count prefix files) s u = absurd u.holds
   ends_sure words (Help topic) t u = sure_text (help_text topic) t u.holds
   ends_sure words Version t u = sure_text version_text t u.holds
 

@@ -5,7 +5,7 @@ use Rattle.command_words.specs.declared.library.Library.{Library}
 use Rattle.console_lines.specs.Ends.{Outcome, end_status, out_unwritten, side_unwritten, console_unwritten}
 use Rattle.console_lines.specs.Faults.{fault_status}
 use Rattle.console_lines.specs.declared.end.End.{End}
-use Rattle.console_lines.specs.declared.end.End.TheVariants.{Unwritten, Told}
+use Rattle.console_lines.specs.declared.end.End.TheVariants.{Unwritten, Told, BroughtInPart, Differ}
 use Rattle.console_lines.specs.declared.end.Unwritten.TheVariants.{Pages}
 use Rattle.console_lines.specs.declared.fault.Fault.TheVariants as fault
 use Rattle.durable_catalogue.specs.Openings.{IsUnopened}
@@ -28,12 +28,13 @@ module _ (o : Outcome) (journal out rest : List ℕ) (library : Library) (code :
 
   pub unheld_well : FitsLook o.old journal → EndsWell o.end
   unheld_well f =
-      by_end o.end no_out (no_rest, ends_so (Unwritten Pages)) no_console (only_memory o journal a.so (ends_so (Told fault.OldVersion)) no_input f)
+      by_end o.end no_out (no_rest, ends_so (Unwritten Pages)) no_console (ends_so BroughtInPart, ends_so Differ)
+      (only_memory o journal a.so (ends_so (Told fault.OldVersion)) no_input f)
 
   pub unheld_status : (status : ℕ) (bytes : List ℕ) → o.old.tells ≡ true → o.old.file journal ≡ Some bytes → (HasFittingHistory o.old bytes → ⊥)
       → ((reason : OpenFault) → IsUnopened (journal_limits o.old) bytes reason → (reason ≡ opening.OldVersion → ⊥) → (fault_of_opening reason ≡ fault.Device → ⊥)
       → IsStatus status (fault_status (fault_of_opening reason))) → IsStatus status (end_status o.end)
   unheld_status status bytes tells there unfit opens =
       by_told status o.end (λ good. unfit (subst (λ file. IsSomeAnd file (HasFittingHistory o.old)) there (a.history (all_untold o.end good) tells))) no_out
-      (no_rest, ends_so (Unwritten Pages)) no_console
+      (no_rest, ends_so (Unwritten Pages)) no_console (ends_so BroughtInPart, ends_so Differ)
       (untaken_status o journal a.so (ends_so (Told fault.OldVersion)) no_input status bytes tells there opens)

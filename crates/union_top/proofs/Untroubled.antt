@@ -5,7 +5,7 @@ use Rattle.std.specs.Prelude.{IsSomeAnd}
 use Rattle.outside.specs.Room.{RoomView}
 use Rattle.console_lines.specs.Ends.{Outcome, IsAllDone, console_unwritten}
 use Rattle.console_lines.specs.declared.end.End.{End}
-use Rattle.console_lines.specs.declared.end.End.TheVariants.{Done, Refused, Unwritten, Told}
+use Rattle.console_lines.specs.declared.end.End.TheVariants.{Done, Refused, Unwritten, Told, BroughtInPart, Differ}
 use Rattle.console_lines.specs.declared.end.Unwritten.TheVariants.{Out, Side, Pages, Console}
 use Rattle.console_lines.specs.declared.fault.Fault.TheVariants as fault
 use Rattle.durable_catalogue.specs.declared.fault.OpenFault.TheVariants as opening
@@ -39,6 +39,8 @@ verified_well (Told fault.Full) kind console input none = absurd kind
 verified_well (Told fault.Memory) kind console input none = inr refl
 verified_well (Told fault.OldVersion) kind console input none = absurd kind
 verified_well (Told fault.OtherHistory) kind console input none = absurd kind
+verified_well BroughtInPart kind console input none = absurd kind
+verified_well Differ kind console input none = absurd kind
 
 digested_well : (end : End) → EndsVerifyingDigest end → (end ≡ console_unwritten → ⊥) → (end ≡ Told fault.Input → ⊥)
     → ((place : ℕ) → end ≡ Told (fault.NotAJournal place) → ⊥) → (end ≡ Told fault.OtherHistory → ⊥) → IsAllDone end ⊎ (end ≡ Told fault.Memory)
@@ -56,6 +58,8 @@ digested_well (Told fault.Full) kind console input none other = absurd kind
 digested_well (Told fault.Memory) kind console input none other = inr refl
 digested_well (Told fault.OldVersion) kind console input none other = absurd kind
 digested_well (Told fault.OtherHistory) kind console input none other = absurd (other refl)
+digested_well BroughtInPart kind console input none other = absurd kind
+digested_well Differ kind console input none other = absurd kind
 
 told_well : (end : End) → EndsTelling end → (end ≡ console_unwritten → ⊥) → IsAllDone end ⊎ (end ≡ Told fault.Memory)
 told_well Done kind console = inl tt
@@ -65,6 +69,8 @@ told_well (Unwritten Side) kind console = absurd kind
 told_well (Unwritten Pages) kind console = absurd kind
 told_well (Unwritten Console) kind console = absurd (console refl)
 told_well (Told why) kind console = absurd kind
+told_well BroughtInPart kind console = absurd kind
+told_well Differ kind console = absurd kind
 
 module _ (o : Outcome) where
   -- a file that fits is a journal

@@ -1,7 +1,7 @@
 -- What it is to carry some words out. The rules are this project's own.
 use Rattle.std.specs.Prelude.{◌≡◌, ◌↔◌, ◌⊎◌, ◌≤◌, ℕ, true, List, [], Some, None}
 use Rattle.outside.specs.Room.{SameBut}
-use Rattle.command_words.specs.Command.{Command, command_of, names_of}
+use Rattle.command_words.specs.Command.{Command, command_of}
 use Rattle.command_words.specs.declared.asked.Unasked.{Unasked}
 use Rattle.command_words.specs.declared.asked.Unasked.TheVariants as unasked
 use Rattle.console_lines.specs.Ends.{Outcome, IsTold}
@@ -9,7 +9,7 @@ use Rattle.console_lines.specs.declared.end.End.{End}
 use Rattle.console_lines.specs.declared.end.End.TheVariants.{Told}
 use Rattle.console_lines.specs.declared.fault.Fault.{Fault}
 use Rattle.console_lines.specs.declared.fault.Fault.TheVariants.{Usage, Memory}
-use Rattle.union_top.specs.Commands.{EndsWith}
+use Rattle.union_top.specs.Commands.{touched, EndsWith}
 use Rattle.union_top.specs.Complete.{Around, CountsStayed, IsUnhindered}
 use Rattle.union_top.specs.Misfits.{RefusesMisfits}
 use Rattle.union_top.specs.Sure.{IsSure}
@@ -26,7 +26,7 @@ pub record AreCarriedOut (words : List (List ℕ)) (status : ℕ) (a : Around) (
   pub usage : status ≡ 2 ↔ command_of words ≡ None
   pub unchanged : status ≡ 2 → SameBut a.old a.new []
   pub usage_told : status ≡ 2 → IsTold Usage (o (Told Usage))
-  pub apart : (command : Command) → command_of words ≡ Some command → SameBut a.old a.new (names_of command)
+  pub apart : (command : Command) → command_of words ≡ Some command → SameBut a.old a.new (touched command)
   pub ends : (command : Command) → command_of words ≡ Some command → EndsWith words command status o
   pub complete : (command : Command) → command_of words ≡ Some command → IsUnhindered words command a → (status ≤ 1) ⊎ (status ≡ 8)
   pub sure : (command : Command) → command_of words ≡ Some command → IsSure words command a → (status ≤ 1) ⊎ (status ≡ 8)

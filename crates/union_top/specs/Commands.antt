@@ -2,7 +2,7 @@
 use Rattle.std.specs.Prelude.{◌≡◌, ◌≢◌, ℕ, List, [], ◌∷◌, Some, None}
 use Rattle.outside.specs.Room.{SameBut}
 use Rattle.command_words.specs.declared.library.Library.{Library}
-use Rattle.command_words.specs.Command.{Command, Pass, Run, Load, Browse, Export, Report, Make, Verify, VerifyPoint, VerifyDigest, Matches, Holdings, Headings, Worklist, Migrate, Salvage, Checkpoint, Quick, QuickReport, Read, ReadHoldings, ReadWorklist, Refused as RefusedOf, Help, Version, libraries_of, names_of}
+use Rattle.command_words.specs.Command.{Command, Pass, Run, Load, Browse, Export, Report, Make, Verify, VerifyPoint, VerifyDigest, Matches, Holdings, Headings, Worklist, Migrate, Salvage, Checkpoint, Quick, QuickReport, Read, ReadHoldings, ReadWorklist, Refused as RefusedOf, Totals as TotalsOf, Join, Split, Help, Version, libraries_of, names_of}
 use Rattle.console_lines.specs.Ends.{Outcome, end_status}
 use Rattle.console_lines.specs.declared.end.End.{End}
 use Rattle.console_lines.specs.declared.end.End.TheVariants.{Told}
@@ -14,6 +14,10 @@ use Rattle.plain_commands.specs.Making.{Makes}
 use Rattle.plain_commands.specs.GivingBack.{GivesBack}
 use Rattle.reading_commands.specs.Unheld.{AttachesUnheld}
 use Rattle.reading_commands.specs.Looking.{LooksInto, look_due}
+use Rattle.parts_commands.specs.Joining.{Joins}
+use Rattle.parts_commands.specs.Telling.{TellsTotals}
+use Rattle.split_command.specs.Names.{split_names}
+use Rattle.split_command.specs.Splitting.{Splits}
 use Rattle.journal_verification.specs.Verifying.{Verifies}
 use Rattle.journal_verification.specs.Comparing.{VerifiesDigest}
 use Rattle.archive_commands.specs.Telling.{TellsMatches}
@@ -55,14 +59,22 @@ Ends words (Read look journal out) o = LooksInto journal out (look_due look) o
 Ends words (ReadHoldings journal out rest code) o = (library : Library) → libraries_of words ≡ library ∷ [] → AttachesUnheld journal out rest library code o
 Ends words (ReadWorklist journal list page code) o = ListsUnheld journal list page code o
 Ends words (RefusedOf out) o = (library : Library) → libraries_of words ≡ library ∷ [] → GivesBack library out o
+Ends words (TotalsOf first reports) o = TellsTotals first reports o
+Ends words (Join out exports) o = Joins out exports o
+Ends words (Split count prefix files) o = Splits count prefix (libraries_of words) o
 Ends words (Help topic) o = Tells (help_text topic) o
 Ends words Version o = Tells version_text o
+
+-- the files that a command may change: its log and outputs, and those of `split`, whose names have more than the words
+abbrev pub touched : Command → List (List ℕ)
+touched (Split count prefix files) = split_names prefix count files
+touched command = names_of command
 
 -- a command of some words was carried out: no name is left open, no file changes but its log and outputs, and it ended as it does, and
 -- not as words end that are no command
 pub record CarriesOut (words : List (List ℕ)) (command : Command) (o : Outcome) : Type 0 where
   pub closed : (name : List ℕ) → o.new.open_as name ≡ None
-  pub apart : SameBut o.old o.new (names_of command)
+  pub apart : SameBut o.old o.new (touched command)
   pub ends : Ends words command o
   pub no_usage : o.end ≢ Told Usage
 

@@ -1,9 +1,10 @@
 -- When nothing hinders a command: it fits, and no fault was counted of what it uses. The rules are this project's own.
-use Rattle.std.specs.Prelude.{ℕ, List, All, Option}
-use Rattle.outside.specs.Fault.{Rose}
+use Rattle.std.specs.Prelude.{ℕ, List, ◌∷◌, length, All, Option}
+use Rattle.outside.specs.Fault.{Rose, count_total}
 use Rattle.outside.specs.Room.{RoomView}
 use Rattle.command_words.specs.declared.library.Library.{Library}
-use Rattle.command_words.specs.Command.{Command, Pass, Run, Load, Browse, Export, Report, Make, Verify, VerifyPoint, VerifyDigest, Matches, Holdings, Headings, Worklist, Migrate, Salvage, Checkpoint, Quick, QuickReport, Read, ReadHoldings, ReadWorklist, Refused as RefusedOf, Help, Version, libraries_of}
+use Rattle.command_words.specs.Command.{Command, Pass, Run, Load, Browse, Export, Report, Make, Verify, VerifyPoint, VerifyDigest, Matches, Holdings, Headings, Worklist, Migrate, Salvage, Checkpoint, Quick, QuickReport, Read, ReadHoldings, ReadWorklist, Refused as RefusedOf, Totals as TotalsOf, Join, Split, Help, Version, libraries_of}
+use Rattle.split_command.specs.Names.{split_names}
 use Rattle.union_top.specs.Fits.{Fits}
 
 -- what the room and the console were before and after a command
@@ -51,6 +52,14 @@ module _ (a : Around) where
   abbrev pub InputsStayed : List Library → Type 0
   InputsStayed libraries = All (λ library. InStayed library.file) libraries
 
+  -- no fault of the inputs of these names was counted, of all together
+  abbrev pub InsStayed : List (List ℕ) → Type 0
+  InsStayed names = Stayed (count_total a.old.in_faults names) (count_total a.new.in_faults names)
+
+  -- no fault of the outputs of these names was counted
+  abbrev pub OutsStayed : List (List ℕ) → Type 0
+  OutsStayed names = All (λ name. OutStayed name) names
+
 -- no count rose of what the command of some words uses
 abbrev pub CountsStayed : List (List ℕ) → Command → Around → Type 0
 CountsStayed words (Pass out) a = InputsStayed a (libraries_of words) × OutStayed a out × ConsoleStayed a
@@ -81,6 +90,10 @@ CountsStayed words (ReadHoldings journal out rest code) a =
     InputsStayed a (libraries_of words) × InStayed a journal × ConsoleStayed a × OutStayed a out × OutStayed a rest
 CountsStayed words (ReadWorklist journal list page code) a = InStayed a journal × OutStayed a list × OutStayed a page
 CountsStayed words (RefusedOf out) a = InputsStayed a (libraries_of words) × OutStayed a out × ConsoleStayed a
+CountsStayed words (TotalsOf first reports) a = InsStayed a (first ∷ reports) × ConsoleStayed a
+CountsStayed words (Join out exports) a = InsStayed a exports × OutStayed a out
+CountsStayed words (Split count prefix files) a =
+    InputsStayed a (libraries_of words) × OutsStayed a (split_names prefix count (length (libraries_of words))) × ConsoleStayed a
 CountsStayed words (Help topic) a = ConsoleStayed a
 CountsStayed words Version a = ConsoleStayed a
 

@@ -1,6 +1,6 @@
 -- What fits a command: what the room has before it, of its files, of its journal's history, and of its limits. The rules are this
 -- project's own.
-use Rattle.std.specs.Prelude.{◌≡◌, ℕ, ◌+◌, ◌≤◌, true, List, [], ◌∷◌, length, All, Option, Some, IsSome, IsSomeAnd}
+use Rattle.std.specs.Prelude.{◌≡◌, ℕ, ◌+◌, ◌≤◌, true, List, [], ◌∷◌, length, All, Option, Some, None, IsSome, IsSomeAnd}
 use Rattle.std.specs.List.{sum_by}
 use Rattle.marc_types.specs.declared.entry.Entry.{Entry}
 use Rattle.marc_types.specs.Limits.{limits_of}
@@ -8,7 +8,7 @@ use Rattle.outside.specs.Room.{RoomView}
 use Rattle.marc_stream.specs.Pieces.{items}
 use Rattle.commit_journal.specs.Log.{version_of}
 use Rattle.command_words.specs.declared.library.Library.{Library}
-use Rattle.command_words.specs.Command.{Command, Pass, Run, Load, Browse, Export, Report, Make, Verify, VerifyPoint, VerifyDigest, Matches, Holdings, Headings, Worklist, Migrate, Salvage as SalvageOf, Checkpoint, Quick, QuickReport, Read, ReadHoldings, ReadWorklist, Refused as RefusedOf, Help, Version, libraries_of}
+use Rattle.command_words.specs.Command.{Command, Pass, Run, Load, Browse, Export, Report, Make, Verify, VerifyPoint, VerifyDigest, Matches, Holdings, Headings, Worklist, Migrate, Salvage as SalvageOf, Checkpoint, Quick, QuickReport, Read, ReadHoldings, ReadWorklist, Refused as RefusedOf, Totals as TotalsOf, Join, Split, Help, Version, libraries_of}
 use Rattle.file_entries.specs.Files.{IsJudged}
 use Rattle.file_entries.specs.declared.refused.RefusedItem.{RefusedItem}
 use Rattle.entry_record.specs.History.{entries_size}
@@ -21,6 +21,9 @@ use Rattle.salvage_command.specs.Salvages.{WasFit}
 use Rattle.checkpoint.specs.declared.point.Point.{Point}
 use Rattle.restoring.specs.Resuming.{IsOfFront}
 use Rattle.checkpoint_commands.specs.PointLogs.{IsPointLog}
+use Rattle.parts_commands.specs.Exports.{ExportsDiffer}
+use Rattle.parts_commands.specs.Reports.{ReportsDiffer}
+use Rattle.split_command.specs.Names.{split_names}
 use Rattle.plain_commands.specs.Totals.{IsWithinLimits}
 use Rattle.loading_commands.specs.Merged.{AreJudged}
 
@@ -129,6 +132,21 @@ pub record FitsVerifyPoint (room : RoomView) (journal point : List ℕ) : Type 0
   pub own : (history : List Entry) (found : Option Point) → HasHistory history look.bytes → IsPointLog found point_bytes
       → IsSomeAnd found (IsOfFront history)
 
+-- the joining of reports, in a room that tells its files: none of them differs from what a part's report has
+pub record FitsTotals (room : RoomView) (first : List ℕ) (reports : List (List ℕ)) : Type 0 where
+  pub tells : room.tells ≡ true
+  pub can : (place : ℕ) (name : List ℕ) → ReportsDiffer room.file first reports place name → ⊥
+
+-- the joining of exports, in a room that tells its files: none of them differs from what a part's export has behind the others
+pub record FitsJoin (room : RoomView) (exports : List (List ℕ)) : Type 0 where
+  pub tells : room.tells ≡ true
+  pub can : (place : ℕ) (name : List ℕ) → ExportsDiffer room.file exports place name → ⊥
+
+-- the cutting of files into so many parts, in a room that tells its files: none of the outputs is there
+pub record FitsSplit (room : RoomView) (count : ℕ) (prefix : List ℕ) (libraries : List Library) : Type 0 where
+  pub tells : room.tells ≡ true
+  pub free : All (λ name. room.file name ≡ None) (split_names prefix count (length libraries))
+
 -- the command of some words: `make`, `help` and `version` fit any room
 abbrev pub Fits : List (List ℕ) → Command → RoomView → Type 0
 Fits words (Pass out) room = FitsPass room (libraries_of words)
@@ -154,5 +172,8 @@ Fits words (Read look journal out) room = FitsLook room journal
 Fits words (ReadHoldings journal out rest code) room = FitsUnheld room journal (libraries_of words)
 Fits words (ReadWorklist journal list page code) room = FitsLook room journal
 Fits words (RefusedOf out) room = FitsPass room (libraries_of words)
+Fits words (TotalsOf first reports) room = FitsTotals room first reports
+Fits words (Join out exports) room = FitsJoin room exports
+Fits words (Split count prefix files) room = FitsSplit room count prefix (libraries_of words)
 Fits words (Help topic) room = Unit {0}
 Fits words Version room = Unit {0}

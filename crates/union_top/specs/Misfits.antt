@@ -5,7 +5,7 @@ use Rattle.marc_types.specs.declared.entry.Limits.{Limits}
 use Rattle.outside.specs.Room.{RoomView}
 use Rattle.commit_journal.specs.Log.{version_of}
 use Rattle.command_words.specs.declared.library.Library.{Library}
-use Rattle.command_words.specs.Command.{Command, Pass, Run, Load, Browse, Export, Report, Make, Verify, VerifyPoint, VerifyDigest, Matches, Holdings, Headings, Worklist, Migrate, Salvage as SalvageOf, Checkpoint, Quick, QuickReport, Read, ReadHoldings, ReadWorklist, Refused as RefusedOf, Help, Version, libraries_of}
+use Rattle.command_words.specs.Command.{Command, Pass, Run, Load, Browse, Export, Report, Make, Verify, VerifyPoint, VerifyDigest, Matches, Holdings, Headings, Worklist, Migrate, Salvage as SalvageOf, Checkpoint, Quick, QuickReport, Read, ReadHoldings, ReadWorklist, Refused as RefusedOf, Totals as TotalsOf, Join, Split, Help, Version, libraries_of}
 use Rattle.file_entries.specs.declared.refused.RefusedItem.{RefusedItem}
 use Rattle.entry_record.specs.History.{IsMerged, IsWithin}
 use Rattle.durable_catalogue.specs.Logs.{HasHistory}
@@ -81,6 +81,9 @@ HasNoHistory words (Read look journal out) room = IsSomeAnd (room.file journal) 
 HasNoHistory words (ReadHoldings journal out rest code) room = IsOneFile words × IsSomeAnd (room.file journal) IsNoHistory
 HasNoHistory words (ReadWorklist journal list page code) room = IsSomeAnd (room.file journal) IsNoHistory
 HasNoHistory words (RefusedOf out) room = ⊥
+HasNoHistory words (TotalsOf first reports) room = ⊥
+HasNoHistory words (Join out exports) room = ⊥
+HasNoHistory words (Split count prefix files) room = ⊥
 HasNoHistory words (Help topic) room = ⊥
 HasNoHistory words Version room = ⊥
 
@@ -109,6 +112,9 @@ IsOfOtherVersion (Read look journal out) room = ⊥
 IsOfOtherVersion (ReadHoldings journal out rest code) room = ⊥
 IsOfOtherVersion (ReadWorklist journal list page code) room = ⊥
 IsOfOtherVersion (RefusedOf out) room = ⊥
+IsOfOtherVersion (TotalsOf first reports) room = ⊥
+IsOfOtherVersion (Join out exports) room = ⊥
+IsOfOtherVersion (Split count prefix files) room = ⊥
 IsOfOtherVersion (Help topic) room = ⊥
 IsOfOtherVersion Version room = ⊥
 
@@ -137,6 +143,9 @@ PassesLimits words (Read look journal out) room = IsSomeAnd (room.file journal) 
 PassesLimits words (ReadHoldings journal out rest code) room = IsOneFile words × IsSomeAnd (room.file journal) (IsTooLarge (journal_limits room))
 PassesLimits words (ReadWorklist journal list page code) room = IsSomeAnd (room.file journal) (IsTooLarge (journal_limits room))
 PassesLimits words (RefusedOf out) room = ⊥
+PassesLimits words (TotalsOf first reports) room = ⊥
+PassesLimits words (Join out exports) room = ⊥
+PassesLimits words (Split count prefix files) room = ⊥
 PassesLimits words (Help topic) room = ⊥
 PassesLimits words Version room = ⊥
 

@@ -8,7 +8,7 @@ use Rattle.marc_stream.specs.Pieces.{items}
 use Rattle.workload.specs.Workload.{workload_bytes}
 use Rattle.commit_journal.specs.declared.format.TheConstants.{BLANK_LENGTH}
 use Rattle.command_words.specs.declared.library.Library.{Library}
-use Rattle.command_words.specs.Command.{Command, Pass, Run, Load, Browse, Export, Report, Make, Verify, VerifyPoint, VerifyDigest, Matches, Holdings, Headings, Worklist, Migrate, Salvage as SalvageOf, Checkpoint, Quick, QuickReport, Read, ReadHoldings, ReadWorklist, Refused as RefusedOf, Help, Version, libraries_of}
+use Rattle.command_words.specs.Command.{Command, Pass, Run, Load, Browse, Export, Report, Make, Verify, VerifyPoint, VerifyDigest, Matches, Holdings, Headings, Worklist, Migrate, Salvage as SalvageOf, Checkpoint, Quick, QuickReport, Read, ReadHoldings, ReadWorklist, Refused as RefusedOf, Totals as TotalsOf, Join, Split, Help, Version, libraries_of}
 use Rattle.file_entries.specs.Files.{IsJudged}
 use Rattle.file_entries.specs.declared.refused.RefusedItem.{RefusedItem}
 use Rattle.entry_record.specs.History.{IsMerged}
@@ -16,6 +16,9 @@ use Rattle.durable_catalogue.specs.Images.{framed_lengths}
 use Rattle.durable_catalogue.specs.Logs.{HasHistory}
 use Rattle.journal_files.specs.Journals.{journal_limits, log_bytes}
 use Rattle.archive_commands.specs.Reads as reads
+use Rattle.catalogue_parts.specs.Joined.{line_of_totals}
+use Rattle.catalogue_parts.specs.declared.totals.Totals.{Totals}
+use Rattle.parts_commands.specs.Reports.{AreJoined}
 use Rattle.plain_commands.specs.Making.{workload_line}
 use Rattle.plain_commands.specs.Passing.{FileDue, results, export_due}
 use Rattle.plain_commands.specs.GivingBack.{refused_due}
@@ -232,7 +235,13 @@ pub record IsSureBrowse (libraries : List Library) (journal out report pages : L
   pub pages_output : (c : LoadCase a.old journal libraries) (due : List BrowsePage) → ArePagesOf (length c.before) (c.before ++ c.added) due
       → HoldsOutput a.old pages (pages_text due)
 
--- what the command of some words uses keeps its promise, and holds what is due; of no room is it said that it holds a checkpoint
+-- the reports are read, and the console is told what they come to
+pub record IsSureTotals (first : List ℕ) (reports : List (List ℕ)) (a : Around) : Type 0 where
+  pub inputs : All (λ name. a.old.promise name ≡ ReadsAlways) (first ∷ reports)
+  pub console : (whole : Totals) → AreJoined a.old.file first reports whole → HoldsText a (line_of_totals whole)
+
+-- what the command of some words uses keeps its promise, and holds what is due; of no room is it said that it holds a checkpoint, what is joined
+-- of exports, or the parts of files
 abbrev pub HoldsAll : List (List ℕ) → Command → Around → Type 0
 HoldsAll words (Pass out) a = IsSurePass export_due (libraries_of words) out a
 HoldsAll words (Run journal out report files) a = IsSureRun (libraries_of words) journal out report a
@@ -257,6 +266,9 @@ HoldsAll words (Read look journal out) a = IsSureLook (look_due look) journal ou
 HoldsAll words (ReadHoldings journal out rest code) a = IsSureUnheld (libraries_of words) journal out rest code a
 HoldsAll words (ReadWorklist journal list page code) a = IsSureWorklistUnheld journal list page code a
 HoldsAll words (RefusedOf out) a = IsSurePass refused_due (libraries_of words) out a
+HoldsAll words (TotalsOf first reports) a = IsSureTotals first reports a
+HoldsAll words (Join out exports) a = ⊥
+HoldsAll words (Split count prefix files) a = ⊥
 HoldsAll words (Help topic) a = HoldsText a (help_text topic)
 HoldsAll words Version a = HoldsText a version_text
 

@@ -1,14 +1,14 @@
 //! Some words, carried out in three calls: `begin` and `end` have the room, and `load` between them, which may wait, has none.
 ghost use Rattle.std.specs.Prelude.{◌≡◌, ◌↔◌, ◌⊎◌, ◌∷◌, ℕ, ◌≤◌, List, Some, None, [], true, IfOk, IfErr};
 ghost use Rattle.outside.specs.Room.{SameBut};
-ghost use Rattle.command_words.specs.Command.{AreNames, Command, command_of, is_large, names_of};
+ghost use Rattle.command_words.specs.Command.{AreNames, Command, command_of, is_large};
 ghost use Rattle.command_words.specs.Asked.{AsksFor, IsUnasked};
 ghost use Rattle.command_words.specs.declared.asked.Request.{Request};
 ghost use Rattle.console_lines.specs.Ends.{outcome};
 ghost use Rattle.console_lines.specs.Faults.{IsFaultTold, fault_line};
 ghost use Rattle.durable_catalogue.specs.Views.{durable_view};
 ghost use Rattle.loading_commands.specs.Outcomes.{HasBegun, IsWaiting, HasRead};
-ghost use Rattle.union_top.specs.Commands.{CarriesOut, EndsWith};
+ghost use Rattle.union_top.specs.Commands.{touched, CarriesOut, EndsWith};
 ghost use Rattle.union_top.specs.Complete.{around, CountsStayed, IsUnhindered};
 ghost use Rattle.union_top.specs.Misfits.{RefusesMisfits};
 ghost use Rattle.union_top.specs.Sure.{IsSure};
@@ -232,7 +232,8 @@ fn carry_through<H: Threads + Wait + Sync, R: Room, G: Gate + Sync>(
 /// Carries out the command of some words over a room, and answers its exit status: 0, or 1 where something was refused; 2 where
 /// the words are no command, 3 where an input failed, 4 where an output failed, 5 where the journal's device failed, 6 where it is no
 /// journal, 7 where there is more than a catalogue takes, 8 where memory ran out, 9 where a journal's
-/// version is not the one that is wanted, 10 where another journal's history is not how this one's begins.
+/// version is not the one that is wanted, 10 where another journal's history is not how this one's begins, 11 where the parts of a
+/// catalogue differ.
 pub fn run<H: Threads + Wait + Sync, R: Room, G: Gate + Sync>(
     rt: &H,
     alloc: Global,
@@ -255,7 +256,7 @@ pub fn run<H: Threads + Wait + Sync, R: Room, G: Gate + Sync>(
 
     // A command changes no file but its log and outputs, and ends as it says.
     ensures apart { (command : Command) → command_of words.now ≡ Some command →
-        SameBut (R.seen room.old) (R.seen room.new) (names_of command) }
+        SameBut (R.seen room.old) (R.seen room.new) (touched command) }
     ensures ends { (command : Command) → command_of words.now ≡ Some command → EndsWith words.now command result
         (outcome R.seen R.Out.written R.Out.faults room.old room.new console.old console.new) }
 

@@ -8,3 +8,7 @@ pub use loading_commands::{Loaded, Loading, load};
 
 mod asked_alone;
 mod command;
+mod journals;
+mod parts;
+mod points;
+mod readings;

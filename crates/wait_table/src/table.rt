@@ -145,8 +145,8 @@ impl WaitTable {
     pub fn by_form(&self, alloc: Global, form: u32) -> Result<Seats, NoMemory>
         ensures { IfOk result (λ seats. ListsEach same_seat (asks form (waits self.now)) seats.items) }
     {
-        let counted = self.forms.things(alloc, form)?;
-        let seats = self.asking_among(alloc, counted.as_slice(), form)?;
+        let mut seats = self.forms.things(alloc, form)?;
+        self.keep_asking(&mut seats, form);
         Ok(seats)
     }
 
@@ -154,35 +154,23 @@ impl WaitTable {
     pub fn by_key(&self, alloc: Global, key: u32) -> Result<Seats, NoMemory>
         ensures { IfOk result (λ seats. ListsEach same_seat (names key (waits self.now)) seats.items) }
     {
-        let counted = self.keys.things(alloc, key)?;
-        let seats = self.naming_among(alloc, counted.as_slice(), key)?;
+        let mut seats = self.keys.things(alloc, key)?;
+        self.keep_naming(&mut seats, key);
         Ok(seats)
     }
 
-    // Those of the seats that wait for the form.
-    fn asking_among(&self, alloc: Global, among: &[Seat], form: u32) -> Result<Seats, NoMemory>
-        ensures { IfOk result (λ seats. seats.items ≡ filter (asks form (waits self.now)) among.now) }
+    // Of the seats those stay that wait for the form.
+    fn keep_asking(&self, seats: &mut Seats, form: u32)
+        ensures { seats.new.items ≡ filter (asks form (waits self.now)) seats.old.items }
     {
-        let mut seats = Vec::with_capacity(alloc, among.len())?;
-        for seat in among {
-            if self.asks(*seat, form) {
-                seats.push(*seat)?;
-            }
-        }
-        Ok(seats)
+        seats.retain(|seat| self.asks(*seat, form));
     }
 
-    // Those of the seats that wait for the key.
-    fn naming_among(&self, alloc: Global, among: &[Seat], key: u32) -> Result<Seats, NoMemory>
-        ensures { IfOk result (λ seats. seats.items ≡ filter (names key (waits self.now)) among.now) }
+    // Of the seats those stay that wait for the key.
+    fn keep_naming(&self, seats: &mut Seats, key: u32)
+        ensures { seats.new.items ≡ filter (names key (waits self.now)) seats.old.items }
     {
-        let mut seats = Vec::with_capacity(alloc, among.len())?;
-        for seat in among {
-            if self.names(*seat, key) {
-                seats.push(*seat)?;
-            }
-        }
-        Ok(seats)
+        seats.retain(|seat| self.names(*seat, key));
     }
 
     // Whether the seat waits for the form.

@@ -6,7 +6,7 @@ use Rattle.outside.specs.Room.{IsUntouched, SameBut}
 use Rattle.durable_catalogue.specs.Logs.{HasHistory}
 use Rattle.console_lines.specs.Ends.{Outcome, IsTold, TellsNoFault, IsSilent}
 use Rattle.console_lines.specs.declared.end.End.{End}
-use Rattle.console_lines.specs.declared.end.End.TheVariants.{Done, Refused, Unwritten, Told}
+use Rattle.console_lines.specs.declared.end.End.TheVariants.{Done, Refused, Unwritten, Told, BroughtInPart, Differ}
 use Rattle.console_lines.specs.declared.end.Unwritten.TheVariants.{Out, Side, Pages, Console}
 use Rattle.console_lines.specs.declared.fault.Fault.{Fault}
 use Rattle.console_lines.specs.declared.fault.Fault.TheVariants.{Usage, Input, Device, NotAJournal, Full, Memory, OldVersion, OtherHistory}
@@ -32,6 +32,8 @@ EndsListingUnheld (Told Full) = Unit {0}
 EndsListingUnheld (Told Memory) = Unit {0}
 EndsListingUnheld (Told OldVersion) = ⊥
 EndsListingUnheld (Told OtherHistory) = ⊥
+EndsListingUnheld BroughtInPart = ⊥
+EndsListingUnheld Differ = ⊥
 
 -- The command `reading worklist`: what a cataloguer works from of the history of the bytes that were read, up to their first closed gate,
 -- into LIST, and then its page into PAGE. The journal is only read.

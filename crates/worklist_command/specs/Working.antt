@@ -1,22 +1,28 @@
 -- How the command ends that lists what a cataloguer works from. The rules are this project's own.
-use Rattle.std.specs.Prelude.{◌≡◌, ◌≢◌, ℕ, true, List, [], ◌∷◌, Option, Some}
+use Rattle.std.specs.Prelude.{◌≡◌, ◌≢◌, ℕ, true, List, [], ◌∷◌, Option, Result, Some, IsErrOf}
+use Rattle.std.specs.Borrow.{Bor}
+use Rattle.std.specs.Option.{option_copied}
 use Rattle.marc_types.specs.declared.entry.Entry.{Entry}
 use Rattle.outside.specs.Fault.{Rose}
-use Rattle.outside.specs.Room.{IsUntouched, SameBut}
+use Rattle.outside.specs.Room.{IsUntouched, RoomView, SameBut}
 use Rattle.catalogue_rules.specs.Settle.{state_of}
 use Rattle.durable_catalogue.specs.Logs.{HasHistory}
 use Rattle.console_lines.specs.Ends.{Outcome, IsTold, TellsNoFault, IsSilent, out_unwritten, side_unwritten}
 use Rattle.console_lines.specs.declared.end.End.{End}
-use Rattle.console_lines.specs.declared.end.End.TheVariants.{Done, Refused, Unwritten, Told}
+use Rattle.console_lines.specs.declared.end.End.TheVariants.{Done, Refused, Unwritten, Told, BroughtInPart, Differ}
+use Rattle.console_lines.specs.declared.end.OutputsFault.{OutputsFault}
+use Rattle.console_lines.specs.declared.end.OutputsFault.TheVariants as outputs
+use Rattle.console_lines.specs.declared.end.Unwritten.{Unwritten as AnyUnwritten}
 use Rattle.console_lines.specs.declared.end.Unwritten.TheVariants.{Out, Side, Pages, Console}
 use Rattle.console_lines.specs.declared.fault.Fault.{Fault}
 use Rattle.console_lines.specs.declared.fault.Fault.TheVariants.{Usage, Input, Device, NotAJournal, Full, Memory, OldVersion, OtherHistory}
 use Rattle.journal_files.specs.Faults.{WhyUnopened}
 use Rattle.journal_files.specs.Journals.{log_bytes, HasFittingHistory, KeepsHistory, IsDurable}
-use Rattle.output_files.specs.Outputs.{AreWritten, IsOutputLeft}
+use Rattle.output_files.specs.Outputs.{AreStopped, AreWritten, IsOutputLeft}
 use Rattle.heading_worklist.specs.Counting.{kept_in}
 use Rattle.heading_worklist.specs.Worklist.{worklist_of}
-use Rattle.worklist_page.specs.Page.{page_of}
+use Rattle.worklist_page.specs.Page.{page_of, state_page}
+use Rattle.worklist_page.specs.declared.bringer.Bringer.{Bringer}
 
 -- the end where LIST could not be written
 abbrev pub list_unwritten : End
@@ -42,10 +48,29 @@ EndsListing (Told Full) = Unit {0}
 EndsListing (Told Memory) = Unit {0}
 EndsListing (Told OldVersion) = ⊥
 EndsListing (Told OtherHistory) = ⊥
+EndsListing BroughtInPart = ⊥
+EndsListing Differ = ⊥
 
 -- what is due in LIST of a history: the lines of all records, or of those with a code
 abbrev pub list_due : Option (List ℕ) → List Entry → List ℕ
 list_due code entries = worklist_of (kept_in code) (state_of entries)
+
+-- the same, for a code that is lent
+abbrev pub list_due_by : Option (Bor (List ℕ)) → List Entry → List ℕ
+list_due_by code entries = list_due (option_copied code) entries
+
+-- what is due in PAGE of a history that they brought
+abbrev pub page_due : List Entry → List (Bringer × ℕ) → List ℕ
+page_due entries brought = state_page (state_of entries) brought
+
+-- nothing but a file changed, and it is as it was
+abbrev pub LeavesList : List ℕ → RoomView → RoomView → Type 0
+LeavesList list old new = SameBut old new (list ∷ []) × IsUntouched old new list
+
+-- where one of both could not be written
+abbrev pub StopsBoth : {X : Type 0} → List ℕ → List ℕ → List ℕ → List ℕ → RoomView → RoomView → Result X OutputsFault → Type 0
+StopsBoth list page due_list due_page old new result =
+    (which : AnyUnwritten) → IsErrOf result (outputs.Unwritten which) → AreStopped (list ∷ []) list page due_list due_page old new which
 
 -- The command `worklist`: what a cataloguer works from of a journal's history into LIST, and then its page into PAGE. The journal keeps its
 -- history.

@@ -1,13 +1,8 @@
 //! The list and the page, as documents.
 ghost use Rattle.std.specs.Prelude.{◌≡◌, ◌≢◌, ◌∷◌, [], true, None, IsErrOf, OnOk};
-ghost use Rattle.std.specs.Option.{option_copied};
-ghost use Rattle.outside.specs.Room.{IsUntouched, SameBut};
-ghost use Rattle.catalogue_rules.specs.Settle.{state_of};
-ghost use Rattle.output_files.specs.Outputs.{AreWritten, AreStopped};
-ghost use Rattle.console_lines.specs.declared.end.Unwritten.{Unwritten as AnyUnwritten};
-ghost use Rattle.heading_worklist.specs.Counting.{kept_in};
-ghost use Rattle.heading_worklist.specs.Worklist.{worklist_of};
-ghost use Rattle.worklist_page.specs.Page.{state_page};
+ghost use Rattle.outside.specs.Room.{SameBut};
+ghost use Rattle.output_files.specs.Outputs.{AreWritten};
+ghost use Rattle.worklist_command.specs.Working.{LeavesList, StopsBoth, list_due_by, page_due};
 
 use catalogue_core::{Catalogue, Engine};
 use console_lines::{OutputsFault, Unwritten};
@@ -28,12 +23,9 @@ struct ListLines<'a> {
 }
 
 impl<'a> Document for ListLines<'a> {
-    ghost use Rattle.std.specs.Option.{option_copied};
-    ghost use Rattle.heading_worklist.specs.Csv.{list_bytes};
-    ghost use Rattle.heading_worklist.specs.Counting.{kept_in};
-    ghost use Rattle.heading_worklist.specs.Worklist.{lines_behind};
+    ghost use Rattle.heading_worklist.specs.Written.{worklist_bytes};
 
-    ghost due = { λ d. list_bytes (lines_behind (kept_in (option_copied d.code)) d.engine.now.state d.lines.keys) };
+    ghost due = { λ d. worklist_bytes d.code d.engine.now.state d.lines.keys };
 
     ghost takes_memory = { λ _. Unit {0} };
 
@@ -60,10 +52,8 @@ fn write_two<R: Room, A: Document, B: Document>(
     ensures page_closed { (R.seen room.new).open_as page.now ≡ None }
     ensures written { OnOk result ((R.seen room.old).tells ≡ true →
         AreWritten list.now page.now (A.due first) (B.due second) (R.seen room.new)) }
-    ensures memory { IsErrOf result OutputsFault.NoMemory →
-        SameBut (R.seen room.old) (R.seen room.new) (list.now ∷ []) × IsUntouched (R.seen room.old) (R.seen room.new) list.now }
-    ensures stopped { (which : AnyUnwritten) → IsErrOf result (OutputsFault.Unwritten which) →
-        AreStopped (list.now ∷ []) list.now page.now (A.due first) (B.due second) (R.seen room.old) (R.seen room.new) which }
+    ensures memory { IsErrOf result OutputsFault.NoMemory → LeavesList list.now (R.seen room.old) (R.seen room.new) }
+    ensures stopped { StopsBoth list.now page.now (A.due first) (B.due second) (R.seen room.old) (R.seen room.new) result }
 {
     match write_document(room, list, first) {
         Ok(()) => {}
@@ -96,13 +86,10 @@ pub(crate) fn write_both<R: Room>(
     ensures closed { (R.seen room.new).open_as list.now ≡ None }
     ensures page_closed { (R.seen room.new).open_as page.now ≡ None }
     ensures written { OnOk result ((R.seen room.old).tells ≡ true → AreWritten list.now page.now
-        (worklist_of (kept_in (option_copied code.entry)) (state_of core.now.history))
-        (state_page (state_of core.now.history) brought.now) (R.seen room.new)) }
-    ensures memory { IsErrOf result OutputsFault.NoMemory →
-        SameBut (R.seen room.old) (R.seen room.new) (list.now ∷ []) × IsUntouched (R.seen room.old) (R.seen room.new) list.now }
-    ensures stopped { (which : AnyUnwritten) → IsErrOf result (OutputsFault.Unwritten which) → AreStopped (list.now ∷ []) list.now page.now
-        (worklist_of (kept_in (option_copied code.entry)) (state_of core.now.history))
-        (state_page (state_of core.now.history) brought.now) (R.seen room.old) (R.seen room.new) which }
+        (list_due_by code.entry core.now.history) (page_due core.now.history brought.now) (R.seen room.new)) }
+    ensures memory { IsErrOf result OutputsFault.NoMemory → LeavesList list.now (R.seen room.old) (R.seen room.new) }
+    ensures stopped { StopsBoth list.now page.now (list_due_by code.entry core.now.history) (page_due core.now.history brought.now)
+        (R.seen room.old) (R.seen room.new) result }
 {
     let engine = core.engine();
     let Ok(found) = open_headings(alloc, engine) else {

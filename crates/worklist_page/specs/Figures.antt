@@ -1,5 +1,5 @@
 -- The headings of a catalogue, counted by library and by kind. A library is the code of a record's key. The rules are this project's own.
-use Rattle.std.specs.Prelude.{ℕ, List, [], fold, map, Option, unwrap_or}
+use Rattle.std.specs.Prelude.{ℕ, List, [], fold, map, Option, option_map, option_to_list, unwrap_or}
 use Rattle.std.specs.List.{flat_map}
 use Rattle.std.specs.Map.{lookup}
 use Rattle.std.specs.Option.{option_map_or}
@@ -15,6 +15,7 @@ use Rattle.marc_types.specs.Order.{kind_rank}
 use Rattle.heading_fields.specs.Tables.{kind_of}
 use Rattle.entry_record.specs.Authority.{Linkable}
 use Rattle.catalogue_rules.specs.State.{KeptField, Row, State, linkable_authorities, rows_of}
+use Rattle.catalogue_rules.specs.Store.{field_at}
 use Rattle.catalogue_tables.specs.declared.standing.Standing.{Standing}
 use Rattle.catalogue_tables.specs.Stands.{field_standing}
 use Rattle.worklist_page.specs.declared.shares.Shares.{Shares}
@@ -33,6 +34,10 @@ mark_of all class key h = record { code = key.code; kind = kind_of class h.field
 -- those of a row's fields
 abbrev pub row_marks : List Linkable → Class → Row → List Mark
 row_marks all class row = map (mark_of all class row.0) row.1.fields
+
+-- that of the field at a place of a row, if there is one
+abbrev pub marks_at : List Linkable → Class → Row → ℕ → List Mark
+marks_at all class row place = option_to_list (option_map (mark_of all class row.0) (field_at place row.1))
 
 -- those of rows
 abbrev pub marks_in : List Linkable → Class → List Row → List Mark

@@ -32,18 +32,27 @@ all_open_headings s = counted_in_order (map compared (open_headings s))
 abbrev pub top_of : List Counted → List Counted
 top_of all = take 100 (dedup same_heading all)
 
--- the row of a heading
+-- the cells of a heading that a page shows
+abbrev pub shown_cells : Cells → List Piece
+shown_cells c = row_name c.heading ++ cell c.state ++ cell c.kind ++ number_cell c.count ++ cell c.candidates ++ cell c.candidate_headings
+
+-- their row
 abbrev pub cells_row : Cells → List Piece
-cells_row c = row (row_name c.heading ++ cell c.state ++ cell c.kind ++ number_cell c.count ++ cell c.candidates ++ cell c.candidate_headings)
+cells_row c = row (shown_cells c)
 
 -- the row of a heading that was counted, with what the list has of it at its place
 abbrev pub heading_row : State → Counted → List Piece
 heading_row s c = option_map_or cells_row (counted_cells s c) []
 
+-- the heads of their columns
+abbrev pub heading_columns : List Piece
+heading_columns =
+    column (codes "Heading") ++ column (codes "State") ++ column (codes "Kind") ++ column (codes "Count") ++ column (codes "Candidates")
+    ++ column (codes "Their names")
+
 -- their table
 abbrev pub headings_table : State → List Piece
 headings_table s =
     table (codes "Headings that are not linked: the 100 that stand most often, with the candidates of the first place")
-    (column (codes "Heading") ++ column (codes "State") ++ column (codes "Kind") ++ column (codes "Count") ++ column (codes "Candidates")
-    ++ column (codes "Their names"))
+    heading_columns
     (flat_map (heading_row s) (top_of (all_open_headings s)))

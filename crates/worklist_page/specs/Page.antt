@@ -70,36 +70,56 @@ kind_rows rows =
 abbrev pub kinds_table : List (ℕ × Shares) → List Piece
 kinds_table rows = table (codes "Headings by kind") (shares_columns (codes "Kind")) (kind_rows rows)
 
--- the row of who brought entries, and how many
+-- who brought entries, and how many
+abbrev pub brought_cells : Bringer × ℕ → List Piece
+brought_cells b = row_name (decimal b.0.run) ++ number b.0.loader ++ element tag.Td (words b.0.library) ++ number b.1
+
+-- their row
 abbrev pub brought_row : Bringer × ℕ → List Piece
-brought_row b = row (row_name (decimal b.0.run) ++ number b.0.loader ++ element tag.Td (words b.0.library) ++ number b.1)
+brought_row b = row (brought_cells b)
+
+-- the heads of its columns
+abbrev pub brought_columns : List Piece
+brought_columns = column (codes "Run") ++ column (codes "Loader") ++ column (codes "Loaded under") ++ column (codes "Entries")
 
 -- how many entries the loaders of each run brought; files' names aren't known
 abbrev pub brought_table : List (Bringer × ℕ) → List Piece
-brought_table rows =
-    table (codes "Entries of the history, by who brought them")
-    (column (codes "Run") ++ column (codes "Loader") ++ column (codes "Loaded under") ++ column (codes "Entries"))
-    (flat_map brought_row rows)
+brought_table rows = table (codes "Entries of the history, by who brought them") brought_columns (flat_map brought_row rows)
 
 -- the page's name
 abbrev pub page_name : List ℕ
 page_name = codes "Union catalogue: how its headings are linked"
 
 -- the character set, the name and the style
+abbrev pub head_parts : List Piece
+head_parts =
+    Start tag.Meta ((attribute.Charset, codes "utf-8") ∷ []) ∷ [] ++ element tag.Title (words page_name) ++ element tag.Style (words STYLE.now)
+
+-- the head, which has these
 abbrev pub head : List Piece
-head =
-    element tag.Head
-    (Start tag.Meta ((attribute.Charset, codes "utf-8") ∷ []) ∷ [] ++ element tag.Title (words page_name) ++ element tag.Style (words STYLE.now))
+head = element tag.Head head_parts
+
+-- the totals of a state
+abbrev pub state_totals : State → Shares → List Piece
+state_totals s totals = totals_table (length s.authorities) (length s.bibliographic) totals
 
 -- under the page's name: the totals, the libraries, the kinds, the headings that stand most often, and the history
 abbrev pub content : State → Figured → List (Bringer × ℕ) → List Piece
 content s f brought =
-    element tag.H1 (words page_name) ++ totals_table (length s.authorities) (length s.bibliographic) f.totals ++ libraries_table f.libraries
+    element tag.H1 (words page_name) ++ state_totals s f.totals ++ libraries_table f.libraries
     ++ kinds_table f.kinds ++ headings_table s ++ brought_table brought
+
+-- the head, and the body, which has this
+abbrev pub halves : State → Figured → List (Bringer × ℕ) → List Piece
+halves s f brought = head ++ element tag.Body (content s f brought)
+
+-- the page without its type
+abbrev pub html : State → Figured → List (Bringer × ℕ) → List Piece
+html s f brought = element_with tag.Html ((attribute.Lang, codes "en") ∷ []) (halves s f brought)
 
 -- the page
 abbrev pub page_pieces : State → Figured → List (Bringer × ℕ) → List Piece
-page_pieces s f brought = Doctype ∷ element_with tag.Html ((attribute.Lang, codes "en") ∷ []) (head ++ element tag.Body (content s f brought))
+page_pieces s f brought = Doctype ∷ html s f brought
 
 -- the page of a state, and of who brought its history
 abbrev pub state_page : State → List (Bringer × ℕ) → List ℕ

@@ -5,7 +5,7 @@ use Rattle.worklist_page.specs.declared.names.Element.TheVariants.{Caption, Tabl
 use Rattle.worklist_page.specs.declared.names.Attribute.TheVariants.{Class, Scope}
 use Rattle.worklist_page.specs.declared.bars.Bar.{Bar}
 use Rattle.worklist_page.specs.Bars.{bar}
-use Rattle.worklist_page.specs.Pieces.{Piece, element, element_with, words}
+use Rattle.worklist_page.specs.Pieces.{Piece, Start, element, element_with, words}
 use Rattle.worklist_page.specs.declared.shares.Shares.{Shares}
 
 -- a row of a table
@@ -31,6 +31,10 @@ number_cell text = element_with Td ((Class, codes "n") ∷ []) (words text)
 -- a cell with a number
 abbrev pub number : ℕ → List Piece
 number n = number_cell (decimal n)
+
+-- the start of a table with that caption, up to the heads of its columns
+abbrev pub table_start : List ℕ → List Piece
+table_start caption = Start Table [] ∷ element Caption (words caption) ++ Start Thead [] ∷ Start Tr [] ∷ []
 
 -- a table: its caption, and the heads of columns over rows
 abbrev pub table : List ℕ → List Piece → List Piece → List Piece

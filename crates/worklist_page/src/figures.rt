@@ -1,11 +1,10 @@
 //! The headings of a catalogue, counted by library and by kind.
-ghost use Rattle.std.specs.Prelude.{◌≡◌, fold, map, option_map, option_to_list, IfOk, OnOk};
+ghost use Rattle.std.specs.Prelude.{◌≡◌, fold, map, IfOk, OnOk};
 ghost use Rattle.std.specs.Ordering.{nat_cmp};
 ghost use Rattle.marc_types.specs.Order.{kind_rank};
 ghost use Rattle.catalogue_rules.specs.State.{linkable_authorities};
-ghost use Rattle.catalogue_rules.specs.Store.{field_at};
 ghost use Rattle.numbered_store.specs.Kept.{found_field, kept_record, shown_row};
-ghost use Rattle.worklist_page.specs.Figures.{code_cmp, figures_of, mark_of, no_figures, row_marks, shares_at, tally, tally_kind, with_class, with_mark, with_rows};
+ghost use Rattle.worklist_page.specs.Figures.{code_cmp, figures_of, mark_of, marks_at, no_figures, row_marks, shares_at, tally, tally_kind, with_class, with_mark, with_rows};
 
 use crate::shares::Shares;
 use catalogue_core::{Engine, Standing};
@@ -157,8 +156,8 @@ impl Figures {
         kept: &StoredRecord,
         place: u32,
     ) -> Result<(), NoMemory>
-        ensures { OnOk result (self.new ≡ fold with_mark self.old
-            (option_to_list (option_map (mark_of (linkable_authorities engine.now.state) class key.now) (field_at place (kept_record kept.now))))) }
+        ensures { OnOk result (self.new
+            ≡ fold with_mark self.old (marks_at (linkable_authorities engine.now.state) class (key.now, kept_record kept.now) place)) }
     {
         match kept.found_at(alloc, place)? {
             Some(found) => self.add_field(alloc, engine, class, key, &found),

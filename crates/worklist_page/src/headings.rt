@@ -1,9 +1,9 @@
 //! The headings that aren't linked and stand most often.
-ghost use Rattle.std.specs.Prelude.{◌≡◌, ◌++◌, codes, map, IfOk, OnOk};
+ghost use Rattle.std.specs.Prelude.{◌≡◌, map, IfOk, OnOk};
 ghost use Rattle.std.specs.List.{flat_map};
-ghost use Rattle.worklist_page.specs.Headings.{all_open_headings, cells_row, heading_row, headings_table, same_heading, stands_again, top_of};
+ghost use Rattle.worklist_page.specs.Headings.{all_open_headings, cells_row, heading_columns, heading_row, headings_table, same_heading, shown_cells, stands_again, top_of};
 ghost use Rattle.worklist_page.specs.Pieces.{Adds};
-ghost use Rattle.worklist_page.specs.Tables.{cell, column, number_cell, row_name};
+ghost use Rattle.worklist_page.specs.Tables.{cell, number_cell, row_name};
 
 use crate::names::Element;
 use crate::pieces::{end, start};
@@ -93,8 +93,7 @@ fn add_candidate_names(page: &mut Vec<u8>, cells: &Cells) -> Result<(), AllocErr
 }
 
 fn add_cells(page: &mut Vec<u8>, cells: &Cells) -> Result<(), AllocError>
-    ensures { OnOk result (Adds page.old.items page.new.items (row_name cells.now.heading ++ cell cells.now.state ++ cell cells.now.kind
-        ++ number_cell cells.now.count ++ cell cells.now.candidates ++ cell cells.now.candidate_headings)) }
+    ensures { OnOk result (Adds page.old.items page.new.items (shown_cells cells.now)) }
 {
     add_name(page, cells)?;
     add_state(page, cells)?;
@@ -165,8 +164,7 @@ fn add_top(
 }
 
 fn add_columns(page: &mut Vec<u8>) -> Result<(), AllocError>
-    ensures { OnOk result (Adds page.old.items page.new.items (column (codes "Heading") ++ column (codes "State") ++ column (codes "Kind")
-        ++ column (codes "Count") ++ column (codes "Candidates") ++ column (codes "Their names"))) }
+    ensures { OnOk result (Adds page.old.items page.new.items heading_columns) }
 {
     add_column(page, b"Heading")?;
     add_column(page, b"State")?;

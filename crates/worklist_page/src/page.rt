@@ -1,11 +1,10 @@
 //! The page as a whole.
-ghost use Rattle.std.specs.Prelude.{◌≡◌, ◌++◌, ◌∷◌, [], codes, length, IfOk, OnOk};
+ghost use Rattle.std.specs.Prelude.{◌≡◌, IfOk, OnOk};
 ghost use Rattle.worklist_page.specs.declared.names.Element.TheVariants as tag;
-ghost use Rattle.worklist_page.specs.declared.names.Attribute.TheVariants as attribute;
-ghost use Rattle.worklist_page.specs.Pieces.{Adds, Start, element, element_with, words};
+ghost use Rattle.worklist_page.specs.Pieces.{Adds, element, words};
 ghost use Rattle.worklist_page.specs.Figures.{figures_of};
 ghost use Rattle.worklist_page.specs.Headings.{all_open_headings};
-ghost use Rattle.worklist_page.specs.Page.{content, head, page_name, page_pieces, state_page, totals_table};
+ghost use Rattle.worklist_page.specs.Page.{content, halves, head, head_parts, html, page_name, page_pieces, state_page, state_totals};
 ghost use Rattle.worklist_page.specs.declared.style.TheConstants.{STYLE as the_style};
 
 use crate::brought::Brought;
@@ -35,8 +34,7 @@ fn add_style(page: &mut Vec<u8>) -> Result<(), AllocError>
 }
 
 fn add_head_parts(page: &mut Vec<u8>) -> Result<(), AllocError>
-    ensures { OnOk result (Adds page.old.items page.new.items
-        (Start tag.Meta ((attribute.Charset, codes "utf-8") ∷ []) ∷ [] ++ element tag.Title (words page_name) ++ element tag.Style (words the_style.now))) }
+    ensures { OnOk result (Adds page.old.items page.new.items head_parts) }
 {
     start_with(page, Element::Meta, Attribute::Charset, b"utf-8")?;
     add_named(page, Element::Title)?;
@@ -65,8 +63,7 @@ struct Shown<'a, 'h> {
 
 #[tactic(auto, using(crate::proofs::Rows::shown_totals))]
 fn add_totals(page: &mut Vec<u8>, engine: &Engine, figures: &Figures) -> Result<(), AllocError>
-    ensures { OnOk result (Adds page.old.items page.new.items
-        (totals_table (length engine.now.state.authorities) (length engine.now.state.bibliographic) figures.now.totals)) }
+    ensures { OnOk result (Adds page.old.items page.new.items (state_totals engine.now.state figures.now.totals)) }
 {
     let authorities = engine.count(Class::Authority);
     let bibliographic = engine.count(Class::Bibliographic);
@@ -98,8 +95,7 @@ fn add_body(page: &mut Vec<u8>, alloc: Global, shown: &Shown<'_, '_>) -> Result<
 }
 
 fn add_halves(page: &mut Vec<u8>, alloc: Global, shown: &Shown<'_, '_>) -> Result<(), NoMemory>
-    ensures { OnOk result (Adds page.old.items page.new.items
-        (head ++ element tag.Body (content shown.now.engine.now.state shown.now.figures.now shown.now.brought.now))) }
+    ensures { OnOk result (Adds page.old.items page.new.items (halves shown.now.engine.now.state shown.now.figures.now shown.now.brought.now)) }
 {
     add_head(page)?;
     add_body(page, alloc, shown)?;
@@ -107,8 +103,7 @@ fn add_halves(page: &mut Vec<u8>, alloc: Global, shown: &Shown<'_, '_>) -> Resul
 }
 
 fn add_html(page: &mut Vec<u8>, alloc: Global, shown: &Shown<'_, '_>) -> Result<(), NoMemory>
-    ensures { OnOk result (Adds page.old.items page.new.items (element_with tag.Html ((attribute.Lang, codes "en") ∷ [])
-        (head ++ element tag.Body (content shown.now.engine.now.state shown.now.figures.now shown.now.brought.now)))) }
+    ensures { OnOk result (Adds page.old.items page.new.items (html shown.now.engine.now.state shown.now.figures.now shown.now.brought.now)) }
 {
     start_with(page, Element::Html, Attribute::Lang, b"en")?;
     add_halves(page, alloc, shown)?;

@@ -4,8 +4,8 @@ ghost use Rattle.std.specs.List.{flat_map};
 ghost use Rattle.std.specs.Fmt.{decimal};
 ghost use Rattle.worklist_page.specs.declared.names.Element.TheVariants as tag;
 ghost use Rattle.worklist_page.specs.Pieces.{Adds, element, words};
-ghost use Rattle.worklist_page.specs.Page.{brought_row, brought_table, kind_name, kind_row, kind_rows, kinds_table, totals_rows, totals_table};
-ghost use Rattle.worklist_page.specs.Tables.{column, number, row_name};
+ghost use Rattle.worklist_page.specs.Page.{brought_cells, brought_columns, brought_row, brought_table, kind_name, kind_row, kind_rows, kinds_table, totals_rows, totals_table};
+ghost use Rattle.worklist_page.specs.Tables.{column, row_name};
 
 use crate::bringer::Bringer;
 use crate::brought::Brought;
@@ -143,8 +143,7 @@ fn add_library(page: &mut Vec<u8>, library: &Text) -> Result<(), AllocError>
 }
 
 fn add_brought_cells(page: &mut Vec<u8>, bringer: &Bringer, count: u64) -> Result<(), AllocError>
-    ensures { OnOk result (Adds page.old.items page.new.items
-        (row_name (decimal bringer.now.run) ++ number bringer.now.loader ++ element tag.Td (words bringer.now.library) ++ number count)) }
+    ensures { OnOk result (Adds page.old.items page.new.items (brought_cells (bringer.now, count))) }
 {
     add_run(page, bringer.run)?;
     add_count(page, bringer.loader as u128)?;
@@ -179,8 +178,7 @@ fn add_brought_rows(page: &mut Vec<u8>, brought: &Brought) -> Result<(), AllocEr
 }
 
 fn add_brought_columns(page: &mut Vec<u8>) -> Result<(), AllocError>
-    ensures { OnOk result (Adds page.old.items page.new.items
-        (column (codes "Run") ++ column (codes "Loader") ++ column (codes "Loaded under") ++ column (codes "Entries"))) }
+    ensures { OnOk result (Adds page.old.items page.new.items brought_columns) }
 {
     add_column(page, b"Run")?;
     add_column(page, b"Loader")?;

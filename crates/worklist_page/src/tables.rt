@@ -1,9 +1,9 @@
 //! Tables of the page.
 ghost use Rattle.std.specs.Prelude.{◌++◌, ◌∷◌, [], OnOk};
 ghost use Rattle.worklist_page.specs.declared.names.Element.TheVariants as tag;
-ghost use Rattle.worklist_page.specs.Pieces.{Adds, End, Start, element, words};
+ghost use Rattle.worklist_page.specs.Pieces.{Adds, End, Start, element};
 ghost use Rattle.worklist_page.specs.Bars.{bar};
-ghost use Rattle.worklist_page.specs.Tables.{bar_of, cell, column, count_row, number, number_cell, row_name, shares_columns, shares_numbers, shares_row};
+ghost use Rattle.worklist_page.specs.Tables.{bar_of, cell, column, count_row, number, number_cell, row_name, shares_columns, shares_numbers, shares_row, table_start};
 
 use crate::bars::{Bar, add_bar};
 use crate::names::{Attribute, Element};
@@ -142,8 +142,7 @@ pub(crate) fn add_shares_columns(page: &mut Vec<u8>, first: &[u8]) -> Result<(),
 
 /// The start of a table, up to the heads of its columns.
 pub(crate) fn start_table(page: &mut Vec<u8>, caption: &[u8]) -> Result<(), AllocError>
-    ensures { OnOk result (Adds page.old.items page.new.items
-        (Start tag.Table [] ∷ element tag.Caption (words caption.now) ++ Start tag.Thead [] ∷ Start tag.Tr [] ∷ [])) }
+    ensures { OnOk result (Adds page.old.items page.new.items (table_start caption.now)) }
 {
     start(page, Element::Table)?;
     add_element(page, Element::Caption, caption)?;

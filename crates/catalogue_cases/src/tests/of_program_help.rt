@@ -4,7 +4,7 @@ use outside_mem::MemSink;
 use program_help::{help, version};
 use std::alloc::Global;
 
-const TOPICS: [(Topic, &str); 23] = [
+const TOPICS: [(Topic, &str); 26] = [
     (Topic::All, "union_cat, a union catalogue"),
     (Topic::Pass, "union_cat pass OUT CODE=FILE\n"),
     (
@@ -36,6 +36,12 @@ const TOPICS: [(Topic, &str); 23] = [
     (Topic::Quick, "union_cat quick JOURNAL POINT OUT\n"),
     (Topic::Reading, "union_cat reading export JOURNAL OUT\n"),
     (Topic::Refused, "union_cat refused OUT CODE=FILE\n"),
+    (
+        Topic::Split,
+        "union_cat split N PREFIX CODE=FILE ..\n",
+    ),
+    (Topic::Join, "union_cat join OUT EXPORT ..\n"),
+    (Topic::Totals, "union_cat totals REPORT0 REPORT ..\n"),
     (Topic::Large, "union_cat large COMMAND ..\n"),
     (Topic::Help, "union_cat help\n"),
     (Topic::Version, "union_cat version\n"),

@@ -1,7 +1,8 @@
 use super::steps::expect;
 use command_words::{
-    AloneRequest, BrowseRequest, HeadingRange, HoldingsRequest, Libraries, Library, LoadRequest,
-    Look, Request, Topic, Unasked, Words, request,
+    AloneRequest, BrowseRequest, HeadingRange, HeldLook, HoldingsRequest, Libraries, Library,
+    LoadRequest, Look, PartsRequest, PointRequest, Request, Topic, Unasked, UnheldLook, Words,
+    request,
 };
 use marc_types::{Kind, NoMemory, Text};
 use std::alloc::Global;
@@ -69,8 +70,10 @@ fn browse_text(alloc: Global, asked: &BrowseRequest<'_>) -> Result<String, NoMem
 fn number_text(number: u64) -> &'static str {
     match number {
         0 => "0",
+        2 => "2",
         7 => "7",
         20 => "20",
+        1_024 => "1024",
         100_000 => "100000",
         1_048_576 => "1048576",
         u64::MAX => "18446744073709551615",
@@ -84,6 +87,9 @@ fn topic_text(topic: Topic) -> &'static str {
         Topic::Make => "make",
         Topic::Help => "help",
         Topic::Load => "load",
+        Topic::Split => "split",
+        Topic::Join => "join",
+        Topic::Totals => "totals",
         Topic::Large => "large",
         Topic::Statuses => "statuses",
         _ => "another topic",
@@ -158,30 +164,74 @@ fn read_text(alloc: Global, look: Look<'_>, journal: &str, out: &str) -> Result<
 
 fn headings_text(alloc: Global, asked: &AloneRequest<'_>) -> Result<String, NoMemory> {
     match asked {
-        AloneRequest::Headings {
-            journal,
-            range,
-            out,
-        } => {
+        AloneRequest::Held(
+            HeldLook::Headings {
+                journal,
+                range,
+                out,
+            },
+        ) => {
             let mut text = barred(alloc, &["headings", journal, out])?;
             push_range(&mut text, *range)?;
             Ok(text)
         }
-        AloneRequest::Worklist {
-            journal,
-            list,
-            page,
-            code,
-        } => worklist_text(alloc, "worklist", &[journal, list, page], *code),
-        AloneRequest::ReadWorklist {
-            journal,
-            list,
-            page,
-            code,
-        } => worklist_text(alloc, "reading worklist", &[journal, list, page], *code),
-        AloneRequest::Holdings(asked) => holdings_text(alloc, "holdings", asked),
-        AloneRequest::ReadHoldings(asked) => holdings_text(alloc, "reading holdings", asked),
+        AloneRequest::Held(
+            HeldLook::Worklist {
+                journal,
+                list,
+                page,
+                code,
+            },
+        ) => worklist_text(alloc, "worklist", &[journal, list, page], *code),
+        AloneRequest::Unheld(
+            UnheldLook::Worklist {
+                journal,
+                list,
+                page,
+                code,
+            },
+        ) => worklist_text(alloc, "reading worklist", &[journal, list, page], *code),
+        AloneRequest::Held(HeldLook::Holdings(asked)) => holdings_text(alloc, "holdings", asked),
+        AloneRequest::Unheld(UnheldLook::Holdings(asked)) => holdings_text(
+            alloc,
+            "reading holdings",
+            asked,
+        ),
         _ => Ok(String::from_str(alloc, "another command")?),
+    }
+}
+
+/// A command over parts with its first name and the others.
+fn named_text(alloc: Global, verb: &str, first: &str, others: &[Text]) -> Result<String, NoMemory> {
+    let mut text = barred(alloc, &[verb, first])?;
+    for word in others {
+        push_word(&mut text, word.as_str())?;
+    }
+    Ok(text)
+}
+
+fn parts_text(alloc: Global, asked: &AloneRequest<'_>) -> Result<String, NoMemory> {
+    match asked {
+        AloneRequest::Parts(PartsRequest::Totals { first, reports }) => named_text(
+            alloc, "totals", first, reports,
+        ),
+        AloneRequest::Parts(PartsRequest::Join { out, exports }) => named_text(
+            alloc, "join", out, exports,
+        ),
+        AloneRequest::Parts(
+            PartsRequest::Split {
+                count,
+                prefix,
+                libraries,
+            },
+        ) => {
+            let mut text = barred(alloc, &["split"])?;
+            push_word(&mut text, number_text(*count))?;
+            push_word(&mut text, prefix)?;
+            push_libraries(&mut text, libraries)?;
+            Ok(text)
+        }
+        asked => headings_text(alloc, asked),
     }
 }
 
@@ -189,27 +239,33 @@ fn later_text(alloc: Global, asked: &AloneRequest<'_>) -> Result<String, NoMemor
     match asked {
         AloneRequest::Migrate { old, new } => barred(alloc, &["migrate", old, new]),
         AloneRequest::Salvage { journal, new } => barred(alloc, &["salvage", journal, new]),
-        AloneRequest::Checkpoint { journal, point } => {
+        AloneRequest::Point(PointRequest::Checkpoint { journal, point }) => {
             barred(alloc, &["checkpoint", journal, point])
         }
-        AloneRequest::Quick {
-            journal,
-            point,
-            out,
-        } => barred(alloc, &["quick", journal, point, out]),
-        AloneRequest::QuickReport {
-            journal,
-            point,
-            out,
-            report,
-        } => barred(alloc, &["quick", journal, point, out, report]),
-        AloneRequest::Read { look, journal, out } => read_text(alloc, *look, journal, out),
+        AloneRequest::Point(
+            PointRequest::Quick {
+                journal,
+                point,
+                out,
+            },
+        ) => barred(alloc, &["quick", journal, point, out]),
+        AloneRequest::Point(
+            PointRequest::QuickReport {
+                journal,
+                point,
+                out,
+                report,
+            },
+        ) => barred(alloc, &["quick", journal, point, out, report]),
+        AloneRequest::Unheld(UnheldLook::Read { look, journal, out }) => read_text(
+            alloc, *look, journal, out,
+        ),
         AloneRequest::Refused { library, out } => {
             let mut text = barred(alloc, &["refused", out])?;
             push_library(&mut text, library)?;
             Ok(text)
         }
-        asked => headings_text(alloc, asked),
+        asked => parts_text(alloc, asked),
     }
 }
 
@@ -220,19 +276,25 @@ fn alone_text(alloc: Global, asked: &AloneRequest<'_>) -> Result<String, NoMemor
             push_library(&mut text, library)?;
             Ok(text)
         }
-        AloneRequest::Export { journal, out, code } => {
+        AloneRequest::Held(HeldLook::Export { journal, out, code }) => {
             let mut text = barred(alloc, &["export", journal, out])?;
             push_word(&mut text, code.unwrap_or("all"))?;
             Ok(text)
         }
-        AloneRequest::Report { journal, out } => barred(alloc, &["report", journal, out]),
+        AloneRequest::Held(HeldLook::Report { journal, out }) => barred(
+            alloc,
+            &["report", journal, out],
+        ),
         AloneRequest::Make { seed, count, out } => {
             let mut text = barred(alloc, &["make", number_text(*seed), number_text(*count)])?;
             push_word(&mut text, out)?;
             Ok(text)
         }
         AloneRequest::Verify { journal } => barred(alloc, &["verify", journal]),
-        AloneRequest::VerifyPoint { journal, point } => barred(alloc, &["verify", journal, point]),
+        AloneRequest::Point(PointRequest::Verify { journal, point }) => barred(
+            alloc,
+            &["verify", journal, point],
+        ),
         AloneRequest::VerifyDigest {
             journal,
             count,
@@ -243,7 +305,10 @@ fn alone_text(alloc: Global, asked: &AloneRequest<'_>) -> Result<String, NoMemor
             push_word(&mut text, digest)?;
             Ok(text)
         }
-        AloneRequest::Matches { journal, out } => barred(alloc, &["matches", journal, out]),
+        AloneRequest::Held(HeldLook::Matches { journal, out }) => barred(
+            alloc,
+            &["matches", journal, out],
+        ),
         AloneRequest::Help { topic } => barred(alloc, &["help", topic_text(*topic)]),
         AloneRequest::Version => barred(alloc, &["version"]),
         later => later_text(alloc, later),
@@ -392,6 +457,57 @@ const OTHERS: [(&str, &str); 21] = [
 #[test]
 fn other_lines(rt: HostRuntime) -> Result<(), Fail> {
     expect_asked(&rt, rt.alloc(), &OTHERS)
+}
+
+const OVER_PARTS: [(&str, &str); 12] = [
+    ("totals a b", "|totals|a|b"),
+    // numbers don't show that a report is named twice
+    ("totals a b b a", "|totals|a|b|b|a"),
+    ("join o a", "|join|o|a"),
+    ("join o a b a", "|join|o|a|b|a"),
+    ("split 2 p A=f", "|split|2|p|A|f"),
+    ("split 1024 f A=f B=f", "|split|1024|f|A|f|B|f"),
+    ("large totals a b", "|totals|a|b"),
+    ("large join o a", "|join|o|a"),
+    ("large split 2 p A=f", "|split|2|p|A|f"),
+    ("help totals", "|help|totals"),
+    ("join --help", "|help|join"),
+    ("large split -h", "|help|split"),
+];
+
+#[test]
+fn lines_over_parts(rt: HostRuntime) -> Result<(), Fail> {
+    expect_asked(&rt, rt.alloc(), &OVER_PARTS)
+}
+
+const FAULTY_PARTS: [&str; 22] = [
+    "totals",
+    "totals a",
+    "totals a ",
+    "totals  a",
+    "join",
+    "join o",
+    "join o o",
+    "join o a o",
+    "join o a ",
+    "join  a",
+    "split",
+    "split 2",
+    "split 2 p",
+    "split 1 p A=f",
+    "split 1025 p A=f",
+    "split two p A=f",
+    "split 2  A=f",
+    "split 2 p f",
+    "split 2 p A=",
+    "split 2 p A(=f",
+    "reading split 2 p A=f",
+    "reading totals a b",
+];
+
+#[test]
+fn faulty_lines_over_parts(rt: HostRuntime) -> Result<(), Fail> {
+    expect_none(&rt, rt.alloc(), &FAULTY_PARTS)
 }
 
 const FAULTY_FILES: [&str; 39] = [

@@ -1,5 +1,6 @@
 //! As many files as a command takes, over a sure room.
 ghost use Rattle.std.specs.Prelude.{◌≡◌, ℕ, List, None, IfOk};
+ghost use Rattle.command_words.specs.Command.{is_large};
 ghost use Rattle.outside_sure.specs.SureRoom.{sure_room_view};
 
 use command_words::{Words, is_large};
@@ -97,7 +98,17 @@ fn totals_of(alloc: Global, count: u32) -> Result<String, NoMemory> {
     Ok(text)
 }
 
-/// Whether a command without `large` answers with that status, and the console is told that.
+/// Gives a room the limits that the command of some words takes, those of a large catalogue or not.
+#[tactic(auto, using(crate::proofs::Closed::sure_sized))]
+fn take_limits(room: &mut SureRoom<'static, ROOM>, words: &Words)
+    requires { (name : List ℕ) → (sure_room_view room.old).open_as name ≡ None }
+    ensures closed { (name : List ℕ) → (sure_room_view room.new).open_as name ≡ None }
+    ensures large { (sure_room_view room.new).is_large ≡ is_large words.now }
+{
+    room.set_large(is_large(words));
+}
+
+/// Whether a command answers with that status, and the console is told that.
 fn answers<H: Threads + Wait + Sync>(
     threads: &H,
     alloc: Global,
@@ -109,10 +120,7 @@ fn answers<H: Threads + Wait + Sync>(
     requires { (name : List ℕ) → (sure_room_view room.old).open_as name ≡ None }
     ensures { (name : List ℕ) → (sure_room_view room.new).open_as name ≡ None }
 {
-    // a sure room isn't large
-    if is_large(words) {
-        return Ok(false);
-    }
+    take_limits(room, words);
     let mut console = SureSink::<ROOM>::new(alloc)?;
     let answer = run(threads, alloc, words, room, &mut console, &OpenGate);
     Ok(answer == status && console.bytes() == told.as_bytes())
@@ -133,7 +141,10 @@ fn loads<H: Threads + Wait + Sync>(
     let is_loaded = answers(threads, alloc, &most, room, 0, totals.as_str())?;
     let export = words_of(alloc, &["export", "j", "out"])?;
     let is_exported = answers(threads, alloc, &export, room, 0, "")?;
-    Ok(is_refused && is_loaded && is_exported)
+    // the same history, with the limits of a large catalogue
+    let large = words_of(alloc, &["large", "export", "j", "out"])?;
+    let is_large = answers(threads, alloc, &large, room, 0, "")?;
+    Ok(is_refused && is_loaded && is_exported && is_large)
 }
 
 fn len_of(room: &SureRoom<'static, ROOM>, name: &str) -> Option<usize> {

@@ -1,60 +1,58 @@
-use Rattle.std.proofs.Common.{arith}
 use Rattle.std.proofs.lemmas.Result.{err_from_is_err_and}
 use Rattle.commit_journal.specs.Versions.{number_of}
-use Rattle.commit_journal.proofs.Faults.{open_cause}
-use Rattle.commit_journal.proofs.Recoveries.{unwritten_read, found_read}
-use Rattle.commit_journal.proofs.Steps.{continues, syncs_now, no_sync_yet, opens_read, synced_once, unchanged_continues}
-use Rattle.commit_journal.proofs.Taken.{found_taken}
+use Rattle.commit_journal.proofs.Beginnings.{unwritten_still, opens_still, taken_still, found_begun, unfound_begun}
 use Rattle.commit_journal.proofs.found.find_each.Goals as goal
 
-pub returns-in_err-end-clause-opens : goal.returns-in_err-end-clause-opens
-returns-in_err-end-clause-opens g c =
-    let law = g.met.D.Disk in
-    let old = c.args.disk.now in
-    let synced = c.in_ok-sync.ensures in
+pub returns-in_err-place-clause-opens : goal.returns-in_err-place-clause-opens
+returns-in_err-place-clause-opens g c =
     let seen = g.D.Disk.seen in
-    let before = seen old in
-    let mid = seen c.sync.new.self in
-    opens_read before mid (seen c.take_log.new.disk) (no_sync_yet before (law.synced_after old) (law.synced_by_now old)) (law.only_now c.sync.new.self) (law.undated_syncs c.take_log.new.disk)
-    (continues before mid synced.time (syncs_now before mid (λ t. law.undated_syncs old t) synced.synced)) synced.synced synced.content synced.durable c.take_log.ensures.read.unchanged
+    let was = c.begin_on.ensures in
+    opens_still (seen c.args.disk.now) (seen c.begin_on.new.disk) (seen c.take_log.new.disk) c.take_log.ensures.read.unchanged was.opens
 
 pub returns-clause-opens : goal.returns-clause-opens
 returns-clause-opens g c =
-    let law = g.met.D.Disk in
-    let old = c.args.disk.now in
-    let synced = c.in_ok-sync.ensures in
     let seen = g.D.Disk.seen in
-    let before = seen old in
-    let mid = seen c.sync.new.self in
-    opens_read before mid (seen c.take_log.new.disk) (no_sync_yet before (law.synced_after old) (law.synced_by_now old)) (law.only_now c.sync.new.self) (law.undated_syncs c.take_log.new.disk)
-    (continues before mid synced.time (syncs_now before mid (λ t. law.undated_syncs old t) synced.synced)) synced.synced synced.content synced.durable c.take_log.ensures.read.unchanged
+    let was = c.begin_on.ensures in
+    opens_still (seen c.args.disk.now) (seen c.begin_on.new.disk) (seen c.take_log.new.disk) c.take_log.ensures.read.unchanged was.opens
 
-pub returns-in_err-end-clause-fault : goal.returns-in_err-end-clause-fault
-returns-in_err-end-clause-fault g c =
-    let exit = err_from_is_err_and c.from_residual-in_err-end.result c.from_residual-in_err-end.ensures.1 in
+pub returns-in_err-place-clause-unwritten : goal.returns-in_err-place-clause-unwritten
+returns-in_err-place-clause-unwritten g c =
     let seen = g.D.Disk.seen in
-    let synced = c.in_ok-sync.ensures in
-    let read = c.in_err-end.ensures in
-    rw (exit.1, exit.2) (open_cause _ _ _ c.in_err-end.field-0.0 synced.content synced.len synced.crash synced.durable synced.cause.later
-    (synced_once (seen c.args.disk.now) (seen c.sync.new.self) (seen c.take_log.new.disk) synced.synced (unchanged_continues _ _ read.read.unchanged) synced.time.later) read.read read.lost)
+    let was = c.begin_on.ensures in
+    unwritten_still (seen c.args.disk.now) (seen c.begin_on.new.disk) (seen c.take_log.new.disk) c.take_log.ensures.read.unchanged was.unwritten
+
+pub returns-clause-unwritten : goal.returns-clause-unwritten
+returns-clause-unwritten g c =
+    let seen = g.D.Disk.seen in
+    let was = c.begin_on.ensures in
+    unwritten_still (seen c.args.disk.now) (seen c.begin_on.new.disk) (seen c.take_log.new.disk) c.take_log.ensures.read.unchanged was.unwritten
+
+pub returns-in_err-place-clause-fault : goal.returns-in_err-place-clause-fault
+returns-in_err-place-clause-fault g c =
+    let exit = err_from_is_err_and c.from_residual-in_err-place.result c.from_residual-in_err-place.ensures.1 in
+    let seen = g.D.Disk.seen in
+    let was = c.begin_on.ensures in
+    let read = c.in_ok-version.ensures in
+    let lost = c.in_err-place.ensures in
+    rw (exit.1, exit.2)
+    (unfound_begun (seen c.args.disk.now) (seen c.begin_on.new.disk) (seen c.take_log.new.disk) lost.read.unchanged
+    (record { unwritten = was.unwritten; only = read.only; opens = was.opens; synced = read.synced; later = was.later }) c.in_err-place.field-0.0 lost.read
+    (λ wrong is b told. lost.lost wrong is (number_of c.in_ok-version.version) read.header b told)).cause
 
 pub returns-clause-found : goal.returns-clause-found
 returns-clause-found g c =
-    let law = g.met.D.Disk in
-    let old = c.args.disk.now in
-    let synced = c.in_ok-sync.ensures in
     let seen = g.D.Disk.seen in
-    let before = seen old in
-    let mid = seen c.sync.new.self in
+    let was = c.begin_on.ensures in
+    let begun = c.in_ok-version.ensures in
+    let version = number_of c.in_ok-version.version in
+    let mid = seen c.begin_on.new.disk in
     let new = seen c.take_log.new.disk in
-    let read = c.in_ok-end.ensures in
-    let same = read.read.unchanged in
-    let first = synced.cause.later in
-    let then = read.read.later in
-    let taken = read.taken in
-    found_taken (g.T.FrameTaker.has c.take_log.new.taker) c.in_ok-end.end.place (number_of c.in_ok-end.end.version) before mid new taken
-    (found_read taken.frames c.in_ok-end.end.place (number_of c.in_ok-end.end.version) before mid new (unwritten_read before mid new synced.content synced.len synced.crash same) synced.durable same taken.read
-    (law.content_len c.take_log.new.disk)
-    (opens_read before mid new (no_sync_yet before (law.synced_after old) (law.synced_by_now old)) (law.only_now c.sync.new.self) (law.undated_syncs c.take_log.new.disk)
-    (continues before mid synced.time (syncs_now before mid (λ t. law.undated_syncs old t) synced.synced)) synced.synced synced.content synced.durable same)
-    (synced_once before mid new synced.synced (unchanged_continues mid new same) synced.time.later) (omega (arith, first, then)))
+    let read = c.take_log.ensures.read in
+    let taken = taken_still (g.T.FrameTaker.has c.args.taker.now c.take_log.new.taker) c.in_ok-place.place version mid new read.unchanged (c.in_ok-place.ensures.taken version begun.header) in
+    record {
+      frames = taken.frames;
+      has = taken.has;
+      found = found_begun (seen c.args.disk.now) mid new read.unchanged
+          (record { unwritten = was.unwritten; only = begun.only; opens = was.opens; synced = begun.synced; later = was.later }) taken.frames c.in_ok-place.place version taken.read
+          (g.met.D.Disk.content_len c.take_log.new.disk) read.later;
+    }

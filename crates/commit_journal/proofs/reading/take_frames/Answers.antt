@@ -11,7 +11,7 @@ pub gates-init : goal.gates-init
 gates-init g c =
     let seen = g.D.Disk.seen in
     record {
-      taken = at_first_gate (g.T.FrameTaker.has c.args.taker.now) (seen c.args.disk.now) c.requires.none;
+      taken = at_first_gate (g.T.FrameTaker.has c.args.taker.now c.args.taker.now) (seen c.args.disk.now) c.requires.none;
       within = c.requires.long;
       least = omega arith;
       unchanged = (same_disk (seen c.args.disk.now)).unchanged;

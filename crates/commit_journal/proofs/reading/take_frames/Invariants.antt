@@ -8,7 +8,7 @@ abbrev pub invariant-gates : goal.invariant-gates
 invariant-gates g l =
     let seen = g.D.Disk.seen in
     record {
-      taken : LeadTo (g.T.FrameTaker.has l.taker) l.place (seen l.fn.disk);
+      taken : LeadTo (g.T.FrameTaker.has l.fn.taker l.taker) l.place (seen l.fn.disk);
       within : l.place < (seen l.fn.disk).len;
       least : FIRST_GATE ≤ l.place;
       unchanged : Unchanged (seen l.fn.disk) (seen l.disk);

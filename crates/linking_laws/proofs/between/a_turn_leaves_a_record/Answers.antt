@@ -2,7 +2,7 @@ use Rattle.linking_laws.proofs.Turning.{turn_stays, drop_stays}
 use Rattle.linking_laws.proofs.between.a_turn_leaves_a_record.Goals as goal
 
 pub returns-clause-stage : goal.returns-clause-stage
-returns-clause-stage c = turn_stays
+returns-clause-stage c = λ all change now m either p h stands r. turn_stays all change now p h r m either stands
 
 pub returns-clause-dropping : goal.returns-clause-dropping
-returns-clause-dropping c = drop_stays
+returns-clause-dropping c = λ d key successor done now p h m next r. drop_stays d key successor done now p h r m next

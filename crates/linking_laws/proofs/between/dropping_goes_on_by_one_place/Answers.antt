@@ -5,4 +5,4 @@ pub returns-clause-begins : goal.returns-clause-begins
 returns-clause-begins c = drop_begins
 
 pub returns-clause-goes_on : goal.returns-clause-goes_on
-returns-clause-goes_on c = drop_goes_on
+returns-clause-goes_on c = λ d key done now m successor p h. drop_goes_on d key successor done now p h m

@@ -24,7 +24,7 @@ returns-in-Ok-prepare_bytes-clause-ends g c =
     let d = c.deliver_pieces-end.ensures in
     let judged = c.as_slice.ensures.value in
     let given = c.as_slice-in-Ok-prepare_bytes.ensures.value in
-    let is_ready = subst (λ (limits : Limits). IsReady limits c.args.library.now c.as_slice.result.now c.in-Ok-prepare_bytes.ready) c.limits_of-limits.ensures.are
+    let is_ready = subst (λ (limits : Limits). IsReady limits c.args.library.now c.as_slice.result.now c.in-Ok-prepare_bytes.ready) (c.of-limits.ensures ∙ ap limits_of c.is_large.ensures)
     c.in-Ok-prepare_bytes.ensures.ready in
     let ready = subst (λ (bytes : List ℕ). IsReady (limits_of old.is_large) c.args.library.now bytes c.in-Ok-prepare_bytes.ready) (judged ∙ sym given) is_ready in
     passes_delivered _ _ _ _ (g.R.Room.seen c.read_file.new.room) stays d.fault d.unwritten

@@ -1,5 +1,6 @@
-use Rattle.std.proofs.Common.{◌∙◌, subst}
+use Rattle.std.proofs.Common.{◌∙◌, ap, subst}
 use Rattle.marc_types.specs.declared.entry.Limits.{Limits}
+use Rattle.marc_types.specs.Limits.{limits_of}
 use Rattle.outside.proofs.Rooms.{same_but_none, same_but_then}
 use Rattle.outside.proofs.Closings.{closed_one}
 use Rattle.plain_commands.specs.Loading.{IsFullIn}
@@ -22,12 +23,12 @@ returns-in-Ok-clause-ends g c =
     let d = c.deliver_export-end.ensures in
     let stays = c.prepare.ensures.stays in
     let ready = subst (λ (limits : Limits). IsReadyIn limits (g.R.Room.seen c.args.room.now) c.args.library.now c.in-Ok.ready)
-    c.limits_of-limits.ensures.are c.in-Ok.ensures.ready in
+    (c.of-limits.ensures ∙ ap limits_of c.is_large.ensures) c.in-Ok.ensures.ready in
     passes_delivered _ _ _ _ mid stays d.fault d.unwritten
     (λ tells. there_more _ (λ bytes ready_is. d.delivered _ _ bytes (stays.tells ∙ tells) ready_is) (ready tells))
 
 pub returns-in-Err-clause-ends : goal.returns-in-Err-clause-ends
 returns-in-Err-clause-ends g c =
     let full = subst (λ (limits : Limits). IsFullIn limits (g.R.Room.seen c.args.room.now) c.args.library.now.file c.args.library.now.code c.in-Err.fault)
-    c.limits_of-limits.ensures.are c.in-Err.ensures.full in
+    (c.of-limits.ensures ∙ ap limits_of c.is_large.ensures) c.in-Err.ensures.full in
     passes_told _ _ _ _ c.in-Err.fault c.tell.ensures.end c.tell.ensures.told c.in-Err.ensures.kind c.prepare.ensures.stays c.in-Err.ensures.cause full

@@ -1,15 +1,17 @@
-use Rattle.std.proofs.Common.{◌≡◌, false, arith, subst, sym}
-use Rattle.marc_types.specs.declared.entry.Limits.{Limits}
+use Rattle.std.proofs.Common.{◌∙◌, ap, arith}
 use Rattle.marc_types.specs.Limits.{plain_limits}
-use Rattle.plain_commands.specs.Entries.{GivesNextEntry}
-use Rattle.plain_commands.specs.Loading.{lacks_room}
-use Rattle.plain_commands.proofs.Committed.{room_for_next}
+use Rattle.plain_commands.specs.Totals.{sums_behind}
+use Rattle.plain_commands.proofs.Committed.{all_begun, few_begun, small_begun}
 use Rattle.plain_commands.proofs.summing.sum_counted.Goals as goal
 
-pub commit-requires : goal.commit-requires
-commit-requires g c =
+pub commit_all-requires-clause-few : goal.commit_all-requires-clause-few
+commit_all-requires-clause-few g c =
     let number = c.workloads_are_within_limits.ensures.number in
     let few = c.requires.few in
-    subst (λ (limits : Limits). lacks_room limits c.entries.loaded.accepted c.in-Some.entry ≡ false) (sym c.entries.invariant.0)
-    (room_for_next plain_limits _ _ _ _ c.in-Some.entry c.entries.invariant.1 (subst (GivesNextEntry _ _) c.in-Some.is c.in_ok-entry.ensures.given)
-    (omega arith) c.workloads_are_within_limits.ensures.size)
+    few_begun _ plain_limits _ _ c.new-loaded.ensures c.in_ok-entries.ensures.all (omega arith)
+
+pub commit_all-requires-clause-small : goal.commit_all-requires-clause-small
+commit_all-requires-clause-small g c = small_begun _ plain_limits _ _ c.new-loaded.ensures c.in_ok-entries.ensures.all c.workloads_are_within_limits.ensures.size
+
+pub returns : goal.returns
+returns g c = c.sums.ensures ∙ ap sums_behind (all_begun _ plain_limits _ _ _ c.new-loaded.ensures c.in_ok-entries.ensures.all c.in_ok-commit_all.ensures)

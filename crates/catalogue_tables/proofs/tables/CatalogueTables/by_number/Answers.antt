@@ -8,7 +8,7 @@ use Rattle.catalogue_tables.proofs.Rowed.{tells_rows}
 use Rattle.catalogue_tables.proofs.tables.CatalogueTables.by_number.Goals as goal
 
 pub returns : goal.returns
-returns c = λ keys s form tells is.
+returns c = λ keys s tells form is.
     let rows = tells_rows c.args.self.now.forms keys c.args.self.now.index s c.args.among tells.distinct tells.in_order.ascend tells.tells in
     c.chosen_among.ensures
     ∙ told_choice keys tells.distinct c.args.whole c.args.among (linkable_authorities s) form c.candidates.result

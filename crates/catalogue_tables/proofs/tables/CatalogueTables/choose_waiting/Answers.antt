@@ -19,4 +19,4 @@ returns-in-None c = λ s tells.
     let kind = c.requires.0 in
     heading_chosen c.args.keys.now (linkable_authorities s) c.args.class h kind c.choose_by_numbers.result c.requires.1
     (chosen_by_forms c.args.self.now.forms c.args.keys.now c.args.self.now.index c.args.class kind h s tells c.choose_by_numbers.result
-    (sym c.in-None.is ∙ c.in_ok-taker.ensures kind c.requires.1 c.requires.2.named) (c.choose_by_numbers.ensures c.args.keys.now s kind tells c.requires.2))
+    (sym c.in-None.is ∙ c.in_ok-taker.ensures kind c.requires.1 c.requires.2.named) (c.choose_by_numbers.ensures c.args.keys.now s tells kind c.requires.2))

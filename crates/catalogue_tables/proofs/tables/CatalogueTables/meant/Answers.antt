@@ -9,7 +9,7 @@ returns-then-is_empty c = λ keys s tells is made.
     let h = kept_field c.args.field.now c.args.tie.now in
     let full = c.meant_in_full-full.result.now in
     base_then keys (by_full_form all c.args.class c.args.base.now.kind h) (by_base_form all c.args.class c.args.base.now.kind h) full c.meant_by_base.result.now
-    (none_left full c.is_empty.result c.is_empty.ensures c.if-is_empty.true) (c.meant_in_full-full.ensures keys s c.args.tie.now tells is made)
+    (none_left full c.is_empty.result c.is_empty.ensures c.if-is_empty.true) (c.meant_in_full-full.ensures keys s tells c.args.tie.now is made)
     (c.meant_by_base.ensures keys s tells is)
 
 pub returns-else-is_empty : goal.returns-else-is_empty
@@ -18,4 +18,4 @@ returns-else-is_empty c = λ keys s tells is made.
     let h = kept_field c.args.field.now c.args.tie.now in
     let full = c.meant_in_full-full.result.now in
     full_then keys (by_full_form all c.args.class c.args.base.now.kind h) (by_base_form all c.args.class c.args.base.now.kind h) full
-    (some_left full c.is_empty.result c.is_empty.ensures c.if-is_empty.false) (c.meant_in_full-full.ensures keys s c.args.tie.now tells is made)
+    (some_left full c.is_empty.result c.is_empty.ensures c.if-is_empty.false) (c.meant_in_full-full.ensures keys s tells c.args.tie.now is made)

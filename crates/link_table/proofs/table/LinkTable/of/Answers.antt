@@ -10,7 +10,6 @@ use Rattle.link_table.proofs.table.LinkTable.of.Goals as goal
 pub returns : goal.returns
 unfolding links
 returns c =
-    rw c.in_ok-seats.ensures
-    (rw c.as_slice.ensures.value
+    rw c.keep_linked.ensures
     (things_listed seat_Decides (leads_to c.args.number) (row_at c.args.self.now.slots) (times same_seat c.args.self.now.names.groups c.args.number)
-    (counted_once c.args.self.now.sound c.args.number) c.in_ok-counted.counted.items c.in_ok-counted.ensures))
+    (counted_once c.args.self.now.sound c.args.number) c.in_ok-seats.seats.items c.in_ok-seats.ensures)

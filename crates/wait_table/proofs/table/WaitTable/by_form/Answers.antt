@@ -10,7 +10,6 @@ use Rattle.wait_table.proofs.table.WaitTable.by_form.Goals as goal
 pub returns : goal.returns
 unfolding waits
 returns c =
-    rw c.in_ok-seats.ensures
-    (rw c.as_slice.ensures.value
+    rw c.keep_asking.ensures
     (things_listed seat_Decides (asks_form c.args.form) (row_at c.args.self.now.slots) (times same_seat c.args.self.now.forms.groups c.args.form)
-    (asked_once c.args.self.now.sound c.args.form) c.in_ok-counted.counted.items c.in_ok-counted.ensures))
+    (asked_once c.args.self.now.sound c.args.form) c.in_ok-seats.seats.items c.in_ok-seats.ensures)

@@ -10,7 +10,6 @@ use Rattle.wait_table.proofs.table.WaitTable.by_key.Goals as goal
 pub returns : goal.returns
 unfolding waits
 returns c =
-    rw c.in_ok-seats.ensures
-    (rw c.as_slice.ensures.value
+    rw c.keep_naming.ensures
     (things_listed seat_Decides (names_key c.args.key) (row_at c.args.self.now.slots) (times same_seat c.args.self.now.keys.groups c.args.key)
-    (named_once c.args.self.now.sound c.args.key) c.in_ok-counted.counted.items c.in_ok-counted.ensures))
+    (named_once c.args.self.now.sound c.args.key) c.in_ok-seats.seats.items c.in_ok-seats.ensures)

@@ -1,0 +1,14 @@
+mod Copied
+mod Exported
+mod Followed
+mod Found
+mod Items
+mod Joinings
+mod Joins
+mod LastLines
+mod Lines
+mod OneKey
+mod Read
+mod Reported
+mod Summed
+mod Tellings

@@ -1,0 +1,17 @@
+pub mod Brought
+pub mod Chosen
+pub mod Cuts
+pub mod Dealt
+pub mod Ended
+pub mod Filed
+pub mod Free
+pub mod Grouped
+pub mod Judging
+pub mod Lines
+pub mod Naming
+pub mod Numbers
+pub mod Pieces
+pub mod Read
+pub mod SideBySide
+pub mod Stepped
+pub mod Told

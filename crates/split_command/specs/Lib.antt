@@ -1,0 +1,13 @@
+pub mod Names
+pub mod Bounding
+pub mod Shares
+pub mod Cut
+pub mod Console
+pub mod Outputs
+pub mod Reading
+pub mod Standing
+pub mod Surveying
+pub mod Dealing
+pub mod Groups
+pub mod Splitting
+pub mod Written
