@@ -66,6 +66,13 @@ slip 2 "made.mrc isn't CODE=FILE" split 2 p made.mrc
 slip 3 'nofile.exp: no such file' join joined.out all.out nofile.exp
 slip 11 '' join joined.out all.out made.mrc
 slip 11 '' totals all.out all.out
+if [ -e /dev/fd/0 ]; then
+    # what gives its bytes once can't be read twice
+    slip 3 '/dev/fd/0: is read more than once, and is no regular file' split 2 piped A=/dev/fd/0 < <(cat made.mrc)
+    [ ! -e piped.parts ] || { echo 'a split of a pipe was written'; wrong=1; }
+    slip 3 '/dev/fd/0: is read more than once, and is no regular file' join joined.out /dev/fd/0 all.out < <(cat all.out)
+    union_cat split 2 regular A=/dev/fd/0 <made.mrc >/dev/null 2>err || { echo 'a split of a file at /dev/fd/0 failed'; wrong=1; }
+fi
 
 echo '# in use'
 ( exec 9<u.jnl; flock -x 9; union_cat export u.jnl held.out >out 2>err; [ $? -eq 5 ] && grep -qF 'u.jnl: in use by another command' err ) || { echo 'a held journal is not told'; wrong=1; }

@@ -18,6 +18,8 @@ pub enum Cause {
     LongerThanGibibyte,
     /// A large command's input has more bytes than [`crate::LONGEST_LARGE_INPUT`], or a log more than a disk.
     LongerThanTebibyte,
+    /// An input that is opened more than once is no regular file.
+    GivesOnce,
     /// A file of that name is there, and none is to be written over.
     Stands,
     /// The file is a journal, and an output would take its place.
@@ -56,6 +58,7 @@ impl Cause {
             Cause::NoSpace => ": no space left",
             Cause::LongerThanGibibyte => ": longer than 1 GiB",
             Cause::LongerThanTebibyte => ": longer than 1 TiB",
+            Cause::GivesOnce => ": is read more than once, and is no regular file",
             Cause::Stands => ": is there already",
             Cause::IsJournal => " is a journal; no output is written over it",
             Cause::LibraryWord => {

@@ -1,4 +1,4 @@
-ghost use Rattle.std.specs.Prelude.{◌≡◌, ℕ, ◌+◌, ◌-◌, ◌<◌, ◌≤◌, ◌↔◌, length, max, IfOk, IsErr, OnOk, OnErr};
+ghost use Rattle.std.specs.Prelude.{◌≡◌, ℕ, ◌+◌, ◌-◌, ◌<◌, ◌≤◌, ◌↔◌, true, length, max, IfOk, IsErr, OnOk, OnErr};
 ghost use Rattle.outside.specs.Disk.{longest_disk, Elapses, SameSyncs, Unchanged};
 ghost use Rattle.outside.specs.Fault.{HasCause, Rose, count_sum, counted};
 
@@ -18,7 +18,7 @@ pub struct FileDisk<R> {
     len: u64,
     faults: u64,
     cause: Option<Cause>,
-    // whether a sync failed, behind which the system may show what isn't on the disk
+    // whether a sync failed, behind which all fail: the system may show what isn't on the disk
     has_failed_sync: bool,
     // who tells how far its reading has come
     watch: Option<Watch<R>>,
@@ -70,6 +70,7 @@ impl<R: Eprint + Clock> FileDisk<R> {
         ensures rose { Rose self.old.faults self.new.faults }
         ensures later { self.old.faults ≤ self.new.faults }
         ensures len { self.new.len ≡ self.old.len }
+        ensures remembers { self.new.has_failed_sync ≡ self.old.has_failed_sync }
     {
         self.cause = Some(cause);
         self.faults = raised(self.faults);
@@ -82,6 +83,7 @@ impl<R: Drop> FileDisk<R> {
     pub fn watch(&mut self, watch: Option<Watch<R>>)
         ensures len { self.new.len ≡ self.old.len }
         ensures faults { self.new.faults ≡ self.old.faults }
+        ensures remembers { self.new.has_failed_sync ≡ self.old.has_failed_sync }
     {
         self.watch = watch;
     }
@@ -90,6 +92,7 @@ impl<R: Drop> FileDisk<R> {
     pub fn limit_cut(&mut self, most: u64)
         ensures len { self.new.len ≡ self.old.len }
         ensures faults { self.new.faults ≡ self.old.faults }
+        ensures remembers { self.new.has_failed_sync ≡ self.old.has_failed_sync }
     {
         self.most_cut = most;
     }
@@ -136,8 +139,9 @@ impl<R: Eprint + Clock> Disk for FileDisk<R> {
         ensures unchanged { Unchanged (file_disk_view self.old) (file_disk_view self.new) }
         ensures cause { HasCause self.old.faults self.new.faults result }
 
-        // A fault counts once.
+        // A fault counts once. A sync that failed is remembered.
         ensures counts { self.new.faults ≡ counted result self.old.faults }
+        ensures remembers { self.new.has_failed_sync ≡ self.old.has_failed_sync }
     {
         if at >= self.len {
             return Ok(0);
@@ -161,9 +165,10 @@ impl<R: Eprint + Clock> Disk for FileDisk<R> {
         ensures syncs { SameSyncs (file_disk_view self.old) (file_disk_view self.new) }
         ensures cause { HasCause self.old.faults self.new.faults result }
 
-        // After a fault the length is as it was, and the fault counts once.
+        // After a fault the length is as it was, and the fault counts once. A sync that failed is remembered.
         ensures failed { OnErr result (self.new.len ≡ self.old.len) }
         ensures counts { self.new.faults ≡ counted result self.old.faults }
+        ensures remembers { self.new.has_failed_sync ≡ self.old.has_failed_sync }
     {
         let count = bytes.len() as u64;
         if count > LONGEST_DISK - at {
@@ -183,9 +188,10 @@ impl<R: Eprint + Clock> Disk for FileDisk<R> {
         ensures syncs { SameSyncs (file_disk_view self.old) (file_disk_view self.new) }
         ensures cause { HasCause self.old.faults self.new.faults result }
 
-        // After a fault the length is as it was, and the fault counts once.
+        // After a fault the length is as it was, and the fault counts once. A sync that failed is remembered.
         ensures failed { OnErr result (self.new.len ≡ self.old.len) }
         ensures counts { self.new.faults ≡ counted result self.old.faults }
+        ensures remembers { self.new.has_failed_sync ≡ self.old.has_failed_sync }
     {
         if self.len - len > self.most_cut {
             return Err(self.fail(Cause::MoreBehind));
@@ -203,9 +209,15 @@ impl<R: Eprint + Clock> Disk for FileDisk<R> {
         ensures syncs { SameSyncs (file_disk_view self.old) (file_disk_view self.new) }
         ensures cause { HasCause self.old.faults self.new.faults result }
 
-        // A fault counts once.
+        // A fault counts once. Behind one all syncs fail: the system may let the next succeed though what was written is lost.
         ensures counts { self.new.faults ≡ counted result self.old.faults }
+        ensures remembers { OnErr result (self.new.has_failed_sync ≡ true) }
+        ensures behind { self.old.has_failed_sync ≡ true → IsErr result }
     {
+        if self.has_failed_sync {
+            self.faults = raised(self.faults);
+            return Err(Failed);
+        }
         match self.file.sync_data() {
             Ok(()) => Ok(()),
             Err(error) => {

@@ -56,6 +56,14 @@ pub fn is_missing<R: Files<File = File>>(rt: &R, name: &str) -> bool {
     matches!(fs::exists(rt, name), Ok(false))
 }
 
+/// Whether what has that name gives its bytes once alone, since it is no regular file: a pipe, or a device.
+pub fn gives_once<R: Files<File = File>>(rt: &R, name: &str) -> bool {
+    match fs::metadata(rt, name) {
+        Ok(found) => !found.is_file(),
+        Err(_) => false,
+    }
+}
+
 /// Whether a regular file of that name begins with a journal's format line. It is read by an opening of its own; one that can't be read is
 /// refused, since it may be a journal.
 pub fn is_journal<R: Files<File = File>>(rt: &R, name: &str) -> Result<bool, Cause> {

@@ -11,7 +11,9 @@ use crate::disk::FileDisk;
 use crate::folder::folder_of;
 use crate::held::HeldFiles;
 use crate::names::Names;
-use crate::opening::{OpenedAs, bytes_at, emptied, foreign_sort, is_journal, is_missing};
+use crate::opening::{
+    OpenedAs, bytes_at, emptied, foreign_sort, gives_once, is_journal, is_missing,
+};
 use crate::sink::FileSink;
 use crate::slips::is_library_word;
 use crate::source::{FileSource, LONGEST_INPUT, LONGEST_LARGE_INPUT};
@@ -65,6 +67,8 @@ pub struct Intent {
     pub looks: bool,
     /// The file whose pieces the command judges, where it is one alone.
     pub judged: Option<String>,
+    /// The inputs that the command opens more than once, so that one which gives its bytes once alone, as a pipe does, is refused.
+    pub reopened: Vec<String>,
     /// What is told of how much was written.
     pub counts: Counts,
     /// An output of which that isn't told.
@@ -86,6 +90,7 @@ impl Intent {
             has_reading: false,
             looks: false,
             judged: None,
+            reopened: Vec::new(alloc),
             counts: Counts::Nothing,
             uncounted: None,
             is_terminal: false,
@@ -305,6 +310,17 @@ impl<R: Files<File = File> + Print + Eprint + Clock + Alloc + Clone + Drop> File
         false
     }
 
+    // Whether an input is to be opened more than once, and gives its bytes once alone, which is told then.
+    fn is_spent(&self, name: &str) -> bool {
+        for reopened in &self.intent.reopened {
+            if reopened.as_str() == name && gives_once(&self.rt, name) {
+                self.tell(name, Cause::GivesOnce);
+                return true;
+            }
+        }
+        false
+    }
+
     // An output that is written over its file tells so, since a failure then leaves a part of it.
     fn tell_straight(&self, name: &str, why: Straight) {
         if why.is_told() {
@@ -499,17 +515,17 @@ impl<R: Files<File = File> + Print + Eprint + Clock + Alloc + Clone + Send + Dro
         } else {
             OpenedAs::Input
         };
-        match self.held.open(self.alloc, &self.rt, name, sort) {
-            Ok(file) => {
-                self.tell_foreign(name);
-                Ok(FileSource::new(self.watched(name, file), self.longest_input()))
-            }
-            Err(cause) => {
-                self.tell(name, cause);
-                self.ins = raised(self.ins);
-                Err(Failed)
+        if !self.is_spent(name) {
+            match self.held.open(self.alloc, &self.rt, name, sort) {
+                Ok(file) => {
+                    self.tell_foreign(name);
+                    return Ok(FileSource::new(self.watched(name, file), self.longest_input()));
+                }
+                Err(cause) => self.tell(name, cause),
             }
         }
+        self.ins = raised(self.ins);
+        Err(Failed)
     }
 
     #[tactic(auto, using(crate::proofs::Outputs::untold_untouched))]

@@ -43,9 +43,32 @@ fn tell_of(alloc: Global, asked: &AloneRequest<'_>, intent: &mut Intent) -> io::
     if let Some(point) = points_of(asked) {
         intent.points = Some(String::from_str(alloc, point)?);
     }
+    tell_reopened(alloc, asked, intent)?;
     intent.has_reading = has_reading(asked);
     intent.looks = looks(asked);
     intent.counts = counts_of(asked);
+    Ok(())
+}
+
+// Which inputs a command opens more than once.
+fn tell_reopened(alloc: Global, asked: &AloneRequest<'_>, intent: &mut Intent) -> io::Result<()> {
+    match asked {
+        AloneRequest::Parts(PartsRequest::Split { libraries, .. }) => {
+            for library in libraries.as_slice() {
+                intent
+                    .reopened
+                    .push(String::from_str(alloc, library.file.as_str())?)?;
+            }
+        }
+        AloneRequest::Parts(PartsRequest::Join { exports, .. }) => {
+            if let Some(first) = exports.first() {
+                intent
+                    .reopened
+                    .push(String::from_str(alloc, first.as_str())?)?;
+            }
+        }
+        _ => {}
+    }
     Ok(())
 }
 

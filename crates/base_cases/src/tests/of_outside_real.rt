@@ -251,3 +251,22 @@ fn a_room_opens_and_closes_files(rt: HostRuntime) -> Result<(), Fail> {
     assert_opens_and_closes(&rt, &mut room, &path);
     remove(&rt, path.as_str())
 }
+
+fn is_there(room: &FileRoom<HostRuntime>, name: &str) -> bool {
+    room.is_there(name)
+}
+
+// A file is there, and so is a folder; what was removed isn't.
+#[test]
+fn a_room_finds_what_is_there(rt: HostRuntime) -> Result<(), Fail> {
+    let path = path_of(&rt, "there")?;
+    let folder = env::temp_dir(&rt)?;
+    let room = FileRoom::new(rt.clone()?, rt.alloc(), own_number(&rt), false);
+    assert!(rt; !is_there(&room, path.as_str()));
+    make(&rt, path.as_str(), b"a")?;
+    assert!(rt; is_there(&room, path.as_str()));
+    assert!(rt; is_there(&room, folder.as_str()));
+    remove(&rt, path.as_str())?;
+    assert!(rt; !is_there(&room, path.as_str()));
+    Ok(())
+}
